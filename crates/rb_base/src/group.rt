@@ -1,4 +1,4 @@
-//! A group of patches: bytes that take the place of others in blocks. rb_attempt makes one for each write of a row,
+//! A group of patches: bytes that take the place of others in blocks. rb_write makes one for each write of a row,
 //! and rb_sound for each commit; rb_group writes and reads their bytes.
 ghost use Rattle.std.specs.Prelude.{IsTrue, ◌≡◌, ◌↔◌, ◌+◌, ◌<◌, ◌≤◌, [], ◌∷◌, ◌++◌};
 ghost use Rattle.std.specs.Prelude.{length, true, slice_index_or};

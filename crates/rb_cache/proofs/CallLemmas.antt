@@ -16,7 +16,7 @@ use Rattle.rb_cache.specs.Calls.{IsDone, Leaving, LogHas}
 use Rattle.rb_cache.specs.Frames.{AreBelow, AreClean, IsLastClean, brought, frame_in, has_number, numbers_of, others_of, room_made, seen, without}
 use Rattle.rb_cache.specs.OnDisk.{IsCalm, Later, OnDisk}
 use Rattle.rb_cache.specs.Slots.{IsPatched}
-use Rattle.rb_roll.specs.Rolled.{step}
+use Rattle.law_redo.specs.Rolled.{step}
 use Rattle.rb_cache.specs.declared.frame.Frame.{Frame}
 use Rattle.rb_cache.proofs.FrameLemmas.{seen_dropped}
 

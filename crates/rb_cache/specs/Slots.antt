@@ -5,7 +5,7 @@ use Rattle.std.specs.Prelude.{slice_index_or}
 use Rattle.std.specs.List.{AllByRecursion}
 use Rattle.rb_base.specs.Groups.{Patch}
 use Rattle.rb_base.specs.declared.sizes.TheConstants.{UNIT}
-use Rattle.rb_roll.specs.Rolled.{step}
+use Rattle.law_redo.specs.Rolled.{step}
 use Rattle.rb_layout.specs.Regions.{block_count}
 use Rattle.rb_twin.specs.Batches.{Image}
 use Rattle.rb_twin.specs.Twins.{TwinState}

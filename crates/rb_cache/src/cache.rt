@@ -5,7 +5,7 @@ ghost use Rattle.std.specs.Prelude.{IfOk, OnOk, true};
 ghost use Rattle.rb_base.specs.Counts.{IsCounted};
 ghost use Rattle.rb_base.specs.Groups.{Patch};
 ghost use Rattle.rb_layout.specs.Regions.{block_count};
-ghost use Rattle.rb_roll.specs.Rolled.{step};
+ghost use Rattle.law_redo.specs.Rolled.{step};
 ghost use Rattle.rb_cache.specs.Calls.{IsDone, Leaving, SeenAt, Settled, StaysOrFlushes, flushed};
 ghost use Rattle.rb_cache.specs.Frames.{AreBelow, AreClean, IsCacheMemory, IsLastClean, NoneDirty};
 ghost use Rattle.rb_cache.specs.Frames.{brought, has_number, numbers_of, seen};

@@ -5,7 +5,7 @@ ghost use Rattle.rb_base.specs.Fields.{overwritten};
 ghost use Rattle.rb_base.specs.Groups.{IsGroup, Patch};
 ghost use Rattle.rb_layout.specs.Regions.{block_count};
 ghost use Rattle.rb_base.specs.Blocks.{written_to};
-ghost use Rattle.rb_roll.specs.Rolled.{has_block, step};
+ghost use Rattle.law_redo.specs.Rolled.{has_block, step};
 ghost use Rattle.rb_twin.specs.Batches.{IsNoneOf};
 ghost use Rattle.rb_twin.specs.declared.batch.TheConstants.{TWIN_IMAGES};
 

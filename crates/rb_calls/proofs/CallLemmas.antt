@@ -12,18 +12,18 @@ use Rattle.rb_engine.specs.Does.{Does, EngineView, Resumes, SameStore, Stands}
 use Rattle.rb_engine.specs.Lateness.{ResumeNeedsLost}
 use Rattle.rb_engine.specs.Makes.{Makes, ResumeMakes}
 use Rattle.rb_engine.specs.Worn.{CallNeedsLost, IsWorn}
-use Rattle.rb_image.specs.Crash.{Survives}
+use Rattle.law_crash.specs.Crash.{Survives}
 use Rattle.rb_lines.specs.Ran.{Did}
 use Rattle.rb_model.specs.Answers.{answer_of, fetch_answer, write_answer}
-use Rattle.rb_model.specs.Calls.{Answer, Call, Done, End, Given, Marked, Numbered, Refused, Reply, Waits, failed_in, is_fault}
+use Rattle.rb_model.specs.Calls.{Answer, Call, Done, End, Given, Marked, Numbered, Refused, MayAnswer, Waits, failed_in, is_fault}
 use Rattle.rb_model.specs.Calls.{Write, Commit, Rollback, SetMode, SetSavepoint, RollbackTo, OpenCursor, Fetch, CloseCursor, Cancel, Marks, Checkpoint}
 use Rattle.rb_model.specs.Change.{Asked}
 use Rattle.rb_model.specs.NextState.{After, unqueued}
 use Rattle.rb_model.specs.Out.{Logged, CallOut, goes_on}
 use Rattle.rb_model.specs.Queue.{first_ready, left_by}
 use Rattle.rb_model.specs.State.{State, asked_of}
-use Rattle.rb_model.specs.declared.answer.Answer as code
-use Rattle.rb_model.specs.declared.answer.Answer.TheVariants as answers
+use Rattle.rb_model.specs.declared.outcome.Outcome as code
+use Rattle.rb_model.specs.declared.outcome.Outcome.TheVariants as answers
 use Rattle.rb_model.specs.declared.refusal.Refusal.{Refusal}
 use Rattle.rb_model.specs.declared.refusal.Refusal.TheVariants.{TooOld}
 use Rattle.rb_model.specs.declared.row.Fetched.{Fetched}
@@ -41,13 +41,13 @@ pub caller_asked : (s : ℕ) (request : Request) → caller (asked_by s request)
 caller_asked s request = grind arith
 
 -- the code's answers after which a command goes on, whatever the row
-pub on_calls : (answer : code.Answer) (row : Row) → (answer ≡ answers.Row) ⊎ ((seg : ℕ) × (writes : ℕ) × (lost : ℕ) × (answer ≡ answers.Marked seg writes lost)) → goes_on (answer_of answer row) ≡ true
+pub on_calls : (answer : code.Outcome) (row : Row) → (answer ≡ answers.Row) ⊎ ((seg : ℕ) × (writes : ℕ) × (lost : ℕ) × (answer ≡ answers.Marked seg writes lost)) → goes_on (answer_of answer row) ≡ true
 on_calls answer row is = ⊎_elim
-    (λ e. ap (λ (a : code.Answer). goes_on (answer_of a row)) e)
-    (λ m. ap (λ (a : code.Answer). goes_on (answer_of a row)) m.3)
+    (λ e. ap (λ (a : code.Outcome). goes_on (answer_of a row)) e)
+    (λ m. ap (λ (a : code.Outcome). goes_on (answer_of a row)) m.3)
     is
 
-pub ends_calls : (answer : code.Answer) (row : Row) → (answer ≡ answers.Row → ⊥) → ((seg writes lost : ℕ) → answer ≡ answers.Marked seg writes lost → ⊥) → goes_on (answer_of answer row) ≡ false
+pub ends_calls : (answer : code.Outcome) (row : Row) → (answer ≡ answers.Row → ⊥) → ((seg writes lost : ℕ) → answer ≡ answers.Marked seg writes lost → ⊥) → goes_on (answer_of answer row) ≡ false
 ends_calls answers.Done row other marks = refl
 ends_calls (answers.Waits on) row other marks = refl
 ends_calls (answers.Committed number) row other marks = refl
@@ -131,7 +131,7 @@ module _ {S : Type 0} (s : Ghosts S) where
         reached = record { engine = does.stands; lsn = refl; blocks = refl };
         passed = record { same = made.same; crash = λ kept. does.survives m.fault going kept; still = λ on. made.disk.still (no_fault on) };
         ran = so now (record {
-          reply = subst (λ (n : ℕ). Reply m.state n c r) (sym is.lsn) does.reply;
+          reply = subst (λ (n : ℕ). MayAnswer m.state n c r) (sym is.lsn) does.reply;
           worn = λ n gone old_one. subst (λ (b : List (List ℕ)). IsWorn m.state b c n gone) (sym is.blocks) (worn_by s m.state old c n gone (made.lost m.state is.engine n gone old_one));
           state = does.after;
           fault = refl;
@@ -171,8 +171,8 @@ module _ {S : Type 0} (s : Ghosts S) (m : Logged) (w : ℕ) (outcome : Result Wr
   Again a = Does s (unqueued m.state w) (call a) r old new
 
   -- the engine's last log number is the machine's
-  told_reply : (a : Asked) → Again a → Reply (unqueued m.state w) m.lsn (call a) r
-  told_reply a does = subst (λ (n : ℕ). Reply (unqueued m.state w) n (call a) r) (sym is.lsn) does.reply
+  told_reply : (a : Asked) → Again a → MayAnswer (unqueued m.state w) m.lsn (call a) r
+  told_reply a does = subst (λ (n : ℕ). MayAnswer (unqueued m.state w) n (call a) r) (sym is.lsn) does.reply
 
   -- the write with which the session waited
   asked_is : (a b : Asked) → asked_of m.state w ≡ Some a → asked_of m.state w ≡ Some b → b ≡ a

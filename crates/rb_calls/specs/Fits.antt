@@ -1,11 +1,11 @@
 -- Which answers the calls of a session have.
 use Rattle.std.specs.Prelude.{ℕ, Option, None, Some}
-use Rattle.rb_model.specs.declared.answer.Answer as code
-use Rattle.rb_model.specs.declared.answer.Answer.TheVariants as answers
+use Rattle.rb_model.specs.declared.outcome.Outcome as code
+use Rattle.rb_model.specs.declared.outcome.Outcome.TheVariants as answers
 
 -- An answer that a call of that session has, or one of none: the marks of a segment are told to none, and what only a
 -- session's call answers to a session.
-abbrev pub FitsCaller : Option ℕ → code.Answer → Type 0
+abbrev pub FitsCaller : Option ℕ → code.Outcome → Type 0
 FitsCaller to answers.Done = Unit {0}
 FitsCaller to (answers.Refused why) = Unit {0}
 FitsCaller None (answers.Marked seg writes lost) = Unit {0}

@@ -6,11 +6,11 @@ use Rattle.rb_base.specs.declared.store.Store.{Ghosts}
 use Rattle.rb_engine.specs.Does.{EngineView, SameStore, Stands}
 use Rattle.rb_engine.specs.Makes.{Makes, StandFor}
 use Rattle.rb_engine.specs.Worn.{IsWorn}
-use Rattle.rb_image.proofs.Crashes.{extends_same, grow_same, survives_on}
-use Rattle.rb_image.proofs.Steps.{left_with, restarts}
-use Rattle.rb_image.specs.Between.{at_end, whole}
-use Rattle.rb_image.specs.Crash.{OnTheWay, Restarts, Survives}
-use Rattle.rb_image.specs.Images.{HasState}
+use Rattle.law_crash.proofs.Crashes.{extends_same, grow_same, survives_on}
+use Rattle.law_crash.proofs.Steps.{left_with, restarts}
+use Rattle.law_crash.specs.Between.{at_end, whole}
+use Rattle.law_crash.specs.Crash.{OnTheWay, Restarts, Survives}
+use Rattle.law_crash.specs.Images.{HasState}
 use Rattle.rb_model.specs.Calls.{Answer, Call}
 use Rattle.rb_model.specs.Out.{Logged, Outside, outside_by}
 use Rattle.rb_model.specs.Rows.{last_scn}

@@ -6,67 +6,67 @@ ghost use Rattle.rb_model.specs.Answers.{answer_of, write_answer, plain_answer, 
 ghost use Rattle.rb_model.specs.Answers.{marks_answer};
 ghost use Rattle.rb_model.specs.Calls.{is_disk_fault as is_fault_of_disk, is_fault};
 
-use rb_model::{Answer, Fetched, Marks, Refusal, Row, Wrote};
+use rb_model::{Outcome, Fetched, Marks, Refusal, Row, Wrote};
 
 /// The answer of a write.
-pub fn answer_to_write(outcome: Result<Wrote, Refusal>) -> Answer
+pub fn answer_to_write(outcome: Result<Wrote, Refusal>) -> Outcome
     ensures answer { (row : Row) → answer_of result row ≡ write_answer outcome }
     ensures fault { (row : Row) → is_fault (answer_of result row) ≡ err_is is_fault_of_disk outcome }
     ensures fits { (s : ℕ) → FitsCaller (Some s) result }
 {
     match outcome {
-        Ok(Wrote::Done) => Answer::Done,
-        Ok(Wrote::Waits { on }) => Answer::Waits { on },
-        Err(why) => Answer::Refused { why },
+        Ok(Wrote::Done) => Outcome::Done,
+        Ok(Wrote::Waits { on }) => Outcome::Waits { on },
+        Err(why) => Outcome::Refused { why },
     }
 }
 
 /// The answer of a commit.
-pub fn answer_to_commit(outcome: Result<Option<u64>, Refusal>) -> Answer
+pub fn answer_to_commit(outcome: Result<Option<u64>, Refusal>) -> Outcome
     ensures answer { (row : Row) → answer_of result row ≡ commit_answer outcome }
     ensures fault { (row : Row) → is_fault (answer_of result row) ≡ err_is is_fault_of_disk outcome }
     ensures fits { (s : ℕ) → FitsCaller (Some s) result }
 {
     match outcome {
-        Ok(None) => Answer::Done,
-        Ok(Some(number)) => Answer::Committed { number },
-        Err(why) => Answer::Refused { why },
+        Ok(None) => Outcome::Done,
+        Ok(Some(number)) => Outcome::Committed { number },
+        Err(why) => Outcome::Refused { why },
     }
 }
 
 /// The answer of a call that gives nothing but that it was done.
-pub fn answer_to_call(outcome: Result<(), Refusal>) -> Answer
+pub fn answer_to_call(outcome: Result<(), Refusal>) -> Outcome
     ensures answer { (row : Row) → answer_of result row ≡ plain_answer outcome }
     ensures fault { (row : Row) → is_fault (answer_of result row) ≡ err_is is_fault_of_disk outcome }
     ensures fits { (s : Option ℕ) → FitsCaller s result }
 {
     match outcome {
-        Ok(()) => Answer::Done,
-        Err(why) => Answer::Refused { why },
+        Ok(()) => Outcome::Done,
+        Err(why) => Outcome::Refused { why },
     }
 }
 
 /// The answer of a fetch, beside its row.
-pub fn answer_to_fetch(outcome: Result<Fetched, Refusal>) -> Answer
+pub fn answer_to_fetch(outcome: Result<Fetched, Refusal>) -> Outcome
     ensures answer { (row : Row) → answer_of result row ≡ fetch_answer outcome row }
     ensures fault { (row : Row) → is_fault (answer_of result row) ≡ err_is is_fault_of_disk outcome }
     ensures fits { (s : ℕ) → FitsCaller (Some s) result }
 {
     match outcome {
-        Ok(Fetched::Row) => Answer::Row,
-        Ok(Fetched::End) => Answer::End,
-        Err(why) => Answer::Refused { why },
+        Ok(Fetched::Row) => Outcome::Row,
+        Ok(Fetched::End) => Outcome::End,
+        Err(why) => Outcome::Refused { why },
     }
 }
 
 /// The answer of what a segment tells of itself.
-pub fn answer_to_marks(seg: u16, outcome: Result<Marks, Refusal>) -> Answer
+pub fn answer_to_marks(seg: u16, outcome: Result<Marks, Refusal>) -> Outcome
     ensures answer { (row : Row) → answer_of result row ≡ marks_answer seg outcome }
     ensures fault { (row : Row) → is_fault (answer_of result row) ≡ err_is is_fault_of_disk outcome }
     ensures fits { FitsCaller None result }
 {
     match outcome {
-        Ok(Marks { writes, lost }) => Answer::Marked { seg, writes, lost },
-        Err(why) => Answer::Refused { why },
+        Ok(Marks { writes, lost }) => Outcome::Marked { seg, writes, lost },
+        Err(why) => Outcome::Refused { why },
     }
 }

@@ -13,7 +13,7 @@ use crate::answers::{
 };
 use rb_base::{Shape, Store};
 use rb_engine::Engine;
-use rb_model::{Answer, Row};
+use rb_model::{Outcome, Row};
 use rb_script::{Command, Request};
 
 /// How many calls a command makes at most over a file of that shape.
@@ -31,7 +31,7 @@ pub fn calls_of(command: &Command<'_>, shape: Shape) -> u32
 }
 
 /// Asks what segment `k` has made and given up.
-fn answer_of_segment<T: Store>(engine: &mut Engine<T>, k: u32) -> Answer
+fn answer_of_segment<T: Store>(engine: &mut Engine<T>, k: u32) -> Outcome
     requires { k < (T.shape_of engine.old.store).segments }
     ensures made { (row : Row) → Made T.Store (machine.Marks k) (answer_of result row) engine.old engine.new }
     ensures fits { FitsCaller None result }
@@ -47,7 +47,7 @@ fn answer_to_request<T: Store>(
     s: u16,
     request: &Request<'_>,
     row: &mut Row,
-) -> Answer
+) -> Outcome
     ensures made { (k : ℕ) → Made T.Store (call_of (asked_by s request.now) k) (answer_of result row.new)
         engine.old engine.new }
     ensures fits { FitsCaller (Some s) result }
@@ -75,7 +75,7 @@ pub fn answer<T: Store>(
     command: &Command<'_>,
     k: u32,
     row: &mut Row,
-) -> Answer
+) -> Outcome
     requires { k < most_calls (T.shape_of engine.old.store) (command_of command.now) }
     ensures made { Made T.Store (call_of (command_of command.now) k) (answer_of result row.new)
         engine.old engine.new }

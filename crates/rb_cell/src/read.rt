@@ -1,4 +1,4 @@
-//! Reads the cells of a block. rb_heap, rb_sound, rb_attempt and the engine's opening call it.
+//! Reads the cells of a block. rb_heap, rb_sound, rb_write and the engine's opening call it.
 ghost use Rattle.std.specs.Prelude.{◌≡◌, ◌<◌, length};
 ghost use Rattle.rb_base.specs.Fields.{part};
 ghost use Rattle.rb_cell.specs.Cells.{cell_place, cell_of, cell_at, value_length, IsCell};

@@ -1,4 +1,4 @@
-//! Cleans the slot entries of a block's copy. `clean_copy` calls it; rb_attempt asks how a transaction stands.
+//! Cleans the slot entries of a block's copy. `clean_copy` calls it; rb_write asks how a transaction stands.
 ghost use Rattle.std.specs.Prelude.{◌≡◌, ◌+◌, ◌*◌, ◌<◌, ◌≤◌, true, false, not, [], length};
 ghost use Rattle.std.specs.Prelude.{IfOk, MatchOption, OnOk};
 ghost use Rattle.std.specs.Result.{is_err};

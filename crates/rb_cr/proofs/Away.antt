@@ -1,12 +1,12 @@
 -- Whether a reader's transaction has an entry in a home.
 use Rattle.std.proofs.Common.{◌≡◌, ◌≢◌, ⊎_elim, ◌&&◌, ℕ, Bool, true, false, Option, Some, None, refl, sym, ◌∙◌, ap, subst}
 use Rattle.rb_base.specs.declared.ids.Xid.{Xid}
-use Rattle.rb_rebuild.specs.Chains.{is_own, same_xid}
-use Rattle.rb_rebuild.specs.Copies.{HasNone, IsAway}
-use Rattle.rb_rebuild.proofs.Unwinding.{is_same}
-use Rattle.rb_walk.specs.Kinds.{Bound, Entry, Exact, Free, Open, Status}
-use Rattle.rb_walk.specs.Walk.{Env, Home, IsActive, entry_at}
-use Rattle.rb_walk.specs.Writes.{is_open}
+use Rattle.law_read.specs.Chains.{is_own, same_xid}
+use Rattle.law_read.specs.Copies.{HasNone, IsAway}
+use Rattle.law_read.proofs.Unwinding.{is_same}
+use Rattle.law_home.specs.Kinds.{Bound, Entry, Exact, Free, Open, Status}
+use Rattle.law_home.specs.Walk.{Env, Home, IsActive, entry_at}
+use Rattle.law_home.specs.Writes.{is_open}
 
 opens : (status : Status) → is_open status ≡ true → status ≡ Open
 opens Free is = absurd (cc (is))

@@ -3,8 +3,8 @@ use Rattle.std.proofs.Common.{◌≡◌, ◌<◌, ℕ, false, refl, arith}
 use Rattle.rb_cr.specs.Faults.{Because, Blames, is_fault}
 use Rattle.rb_cr.specs.declared.faults.CrFault.{CrFault}
 use Rattle.rb_cr.specs.declared.faults.CrFault.TheVariants as faults
-use Rattle.rb_rebuild.specs.Heights.{Over}
-use Rattle.rb_walk.specs.Walk.{Env, Home, entry_at}
+use Rattle.law_read.specs.Heights.{Over}
+use Rattle.law_home.specs.Walk.{Env, Home, entry_at}
 
 -- a segment is blamed that lost something above n, with this reason
 pub because_lost : (env : Env) (n : ℕ) (why : ℕ → Type 0) (seg : ℕ) (e : CrFault) → (is_fault e ≡ false → (n < env.lost seg) × why seg) → Blames n (env.lost seg) e → Because env n why e

@@ -5,8 +5,8 @@ use Rattle.rb_base.specs.declared.shape.Shape.{Shape}
 use Rattle.rb_heap.proofs.Reading.{entries_counted, entry_read}
 use Rattle.rb_heap.specs.Homes.{home_of}
 use Rattle.rb_itl.specs.Entries as bytes
-use Rattle.rb_standing.specs.Says.{walk_entry, walk_home}
-use Rattle.rb_walk.specs.Walk.{entry_at, free_entry}
+use Rattle.law_blocks.specs.Says.{walk_entry, walk_home}
+use Rattle.law_home.specs.Walk.{entry_at, free_entry}
 
 pub of_home : (block : List ℕ) (i : ℕ) (shape : Shape) (b : ℕ) → i < 8 → entry_at (walk_home shape b (home_of block)) i ≡ walk_entry shape (bytes.entry_at block i)
 of_home block i shape b lt =

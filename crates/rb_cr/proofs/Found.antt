@@ -5,8 +5,8 @@ use Rattle.rb_base.specs.declared.ids.Uba.{Uba}
 use Rattle.rb_base.specs.declared.shape.Shape.{Shape}
 use Rattle.rb_cr.specs.Records.{walk_found}
 use Rattle.rb_segment.specs.Header.{record_in}
-use Rattle.rb_standing.specs.Says.{place_of, walk_record, walk_undo}
-use Rattle.rb_standing.specs.Standing.{env_of, segments_of}
+use Rattle.law_blocks.specs.Says.{place_of, walk_record, walk_undo}
+use Rattle.law_blocks.specs.Standing.{env_of, segments_of}
 use Rattle.rb_undoblock.specs.Undo.{no_undo}
 use Rattle.rb_undoblock.specs.declared.record.UndoRecord.{UndoRecord}
 use Rattle.rb_cr.proofs.Beyond.{record_none}

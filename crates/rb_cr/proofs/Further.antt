@@ -7,21 +7,21 @@ use Rattle.rb_cr.specs.Going.{WentOn}
 use Rattle.rb_cr.specs.Parts.{Rewound}
 use Rattle.rb_cr.specs.declared.faults.CrFault.{CrFault}
 use Rattle.rb_cr.specs.declared.faults.CrFault.TheVariants as faults
-use Rattle.rb_rebuild.specs.Copies.{Copied, Unseen}
-use Rattle.rb_rebuild.specs.Heights.{AtMost, Beyond, LookAtMost, LookBeyond, StatusAtMost, StatusBeyond}
-use Rattle.rb_rebuild.specs.Keeping.{Kept, behind_mine, first_count, kept_room, overlay}
-use Rattle.rb_rebuild.specs.Reading.{History, Worn, count_above, flat, rows_at, rows_in, up_to}
-use Rattle.rb_rebuild.specs.Turns.{WornIn}
+use Rattle.law_read.specs.Copies.{Copied, Unseen}
+use Rattle.law_read.specs.Heights.{AtMost, Beyond, LookAtMost, LookBeyond, StatusAtMost, StatusBeyond}
+use Rattle.law_read.specs.Keeping.{Kept, behind_mine, first_count, kept_room, overlay}
+use Rattle.law_read.specs.Reading.{History, Worn, count_above, flat, rows_at, rows_in, up_to}
+use Rattle.law_read.specs.Turns.{WornIn}
 use Rattle.rb_txntable.specs.declared.looks.Look.{Look}
 use Rattle.rb_txntable.specs.declared.looks.Look.TheVariants.{Active, At, Before}
-use Rattle.rb_walk.specs.Kinds.{Bound, Entry, Exact, Free, Open, Status}
-use Rattle.rb_walk.specs.Walk.{Commit, Env, Home, Match, Rows, Walk, entry_at}
+use Rattle.law_home.specs.Kinds.{Bound, Entry, Exact, Free, Open, Status}
+use Rattle.law_home.specs.Walk.{Commit, Env, Home, Match, Rows, Walk, entry_at}
 use Rattle.rb_cr.proofs.Blaming.{because_map}
-use Rattle.rb_rebuild.proofs.Copying.{copy_worn, cuts_count, cuts_flat, cuts_rows, cuts_tail}
-use Rattle.rb_rebuild.proofs.Keeping.{overlay_same}
-use Rattle.rb_rebuild.proofs.Peeling.{first_append}
-use Rattle.rb_rebuild.proofs.Showing.{match_rows}
-use Rattle.rb_rebuild.proofs.Unseen.{plain, unseen_plain}
+use Rattle.law_read.proofs.Copying.{copy_worn, cuts_count, cuts_flat, cuts_rows, cuts_tail}
+use Rattle.law_read.proofs.Keeping.{overlay_same}
+use Rattle.law_read.proofs.Peeling.{first_append}
+use Rattle.law_read.proofs.Showing.{match_rows}
+use Rattle.law_read.proofs.Unseen.{plain, unseen_plain}
 
 look_not : (n c : ℕ) (look : Look) → LookAtMost n c look → LookBeyond n look → ⊥
 look_not n c Active most over = most

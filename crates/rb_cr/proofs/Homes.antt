@@ -7,9 +7,9 @@ use Rattle.rb_cr.specs.Scratches.{scratch_home}
 use Rattle.rb_cell.specs.declared.cell.Cell as cells
 use Rattle.rb_heap.specs.Homes as heap
 use Rattle.rb_itl.specs.declared.slots.Entry as entries
-use Rattle.rb_standing.specs.Says.{walk_home}
-use Rattle.rb_standing.specs.Standing.{env_of, homes_of}
-use Rattle.rb_walk.specs.Walk.{Env, Home}
+use Rattle.law_blocks.specs.Says.{walk_home}
+use Rattle.law_blocks.specs.Standing.{env_of, homes_of}
+use Rattle.law_home.specs.Walk.{Env, Home}
 
 pub env_stays : (shape shape2 : Shape) (blocks blocks2 : List (List ℕ)) → shape2 ≡ shape → blocks2 ≡ blocks → env_of shape2 blocks2 ≡ env_of shape blocks
 env_stays shape shape2 blocks blocks2 same kept = ap (λ (z : Shape). env_of z blocks2) same ∙ ap (env_of shape) kept

@@ -7,11 +7,11 @@ use Rattle.rb_cell.specs.declared.cell.Cell as cells
 use Rattle.rb_cell.specs.declared.cell.TheConstants.{ROW, EMPTY}
 use Rattle.rb_cr.specs.Rows.{kept_key, kept_row}
 use Rattle.rb_heap.specs.Homes.{empty_cell}
-use Rattle.rb_rebuild.specs.Keeping.{Kept, overlay}
-use Rattle.rb_rebuild.specs.Reading.{or_else, rows_in}
-use Rattle.rb_standing.specs.Says.{walk_cell}
-use Rattle.rb_walk.specs.Kinds.{Empty, Row, Stub}
-use Rattle.rb_walk.specs.Walk.{Rows, row_of}
+use Rattle.law_read.specs.Keeping.{Kept, overlay}
+use Rattle.law_read.specs.Reading.{or_else, rows_in}
+use Rattle.law_blocks.specs.Says.{walk_cell}
+use Rattle.law_home.specs.Kinds.{Empty, Row, Stub}
+use Rattle.law_home.specs.Walk.{Rows, row_of}
 
 -- the row of a key, by what is kept of it or else by what lies below
 abbrev pub chosen : Option (Option (List ℕ)) → Option (List ℕ) → Option (List ℕ)

@@ -7,20 +7,20 @@ use Rattle.rb_cr.specs.Faults.{Because, is_fault}
 use Rattle.rb_cr.specs.Parts.{Built, Goes, Gone, Highest, Passed, Rewound, Spent, Undone}
 use Rattle.rb_cr.specs.declared.faults.CrFault.{CrFault}
 use Rattle.rb_cr.specs.declared.visible.HighestEntry.{HighestEntry}
-use Rattle.rb_rebuild.specs.Chains.{unwound}
-use Rattle.rb_rebuild.specs.Heights.{AtMost}
-use Rattle.rb_rebuild.specs.Keeping.{kept_room, Kept, behind_mine, first_count, kept_after, overlay}
-use Rattle.rb_rebuild.specs.Reading.{total, rows_at, count_above, Reader, flat, History, Reading, Worn}
-use Rattle.rb_rebuild.specs.Reading.{rows_in}
-use Rattle.rb_rebuild.specs.Turns.{Ends, Starts, Peeled, Running, WornIn}
-use Rattle.rb_walk.specs.Walk.{Change, Commit, Home, Env, Rows, Match, Walk, Distinct, IsActive, own}
-use Rattle.rb_walk.specs.Walk.{entry_at}
-use Rattle.rb_rebuild.proofs.Copying.{settled_walk}
-use Rattle.rb_rebuild.proofs.Keeping.{overlay_same}
-use Rattle.rb_rebuild.proofs.Peeling.{begins, fails, finishes, turns}
-use Rattle.rb_rebuild.proofs.Showing.{match_rows}
-use Rattle.rb_rebuild.proofs.Unwinding.{stopped_none}
-use Rattle.rb_rebuild.proofs.Undoing.{Turned, allows, passes_by, taken_back, takes_back}
+use Rattle.law_read.specs.Chains.{unwound}
+use Rattle.law_read.specs.Heights.{AtMost}
+use Rattle.law_read.specs.Keeping.{kept_room, Kept, behind_mine, first_count, kept_after, overlay}
+use Rattle.law_read.specs.Reading.{total, rows_at, count_above, Reader, flat, History, Reading, Worn}
+use Rattle.law_read.specs.Reading.{rows_in}
+use Rattle.law_read.specs.Turns.{Ends, Starts, Peeled, Running, WornIn}
+use Rattle.law_home.specs.Walk.{Change, Commit, Home, Env, Rows, Match, Walk, Distinct, IsActive, own}
+use Rattle.law_home.specs.Walk.{entry_at}
+use Rattle.law_read.proofs.Copying.{settled_walk}
+use Rattle.law_read.proofs.Keeping.{overlay_same}
+use Rattle.law_read.proofs.Peeling.{begins, fails, finishes, turns}
+use Rattle.law_read.proofs.Showing.{match_rows}
+use Rattle.law_read.proofs.Unwinding.{stopped_none}
+use Rattle.law_read.proofs.Undoing.{Turned, allows, passes_by, taken_back, takes_back}
 use Rattle.rb_cr.proofs.Blaming.{because_lost, because_map, because_over}
 use Rattle.rb_cr.specs.declared.faults.CrFault.TheVariants as faults
 

@@ -2,11 +2,11 @@
 use Rattle.std.proofs.Common.{◌≡◌, inl, inr, ◌<◌, ◌≤◌, ◌+◌, ◌-◌, ℕ, suc, length, Option, Some, None}
 use Rattle.std.proofs.Common.{sym, subst, arith}
 use Rattle.rb_base.specs.declared.ids.Xid.{Xid}
-use Rattle.rb_rebuild.specs.Chains.{applied, fits}
-use Rattle.rb_rebuild.specs.Keeping.{kept_room, Kept, keep, kept_one, kept_go, kept_after}
-use Rattle.rb_walk.specs.Kinds.{Undo}
-use Rattle.rb_walk.specs.Walk.{Home, Env, entry_at, back}
-use Rattle.rb_rebuild.proofs.Keeping.{kept_grows, bools}
+use Rattle.law_read.specs.Chains.{applied, fits}
+use Rattle.law_read.specs.Keeping.{kept_room, Kept, keep, kept_one, kept_go, kept_after}
+use Rattle.law_home.specs.Kinds.{Undo}
+use Rattle.law_home.specs.Walk.{Home, Env, entry_at, back}
+use Rattle.law_read.proofs.Keeping.{kept_grows, bools}
 
 one_grows : (env : Env) (mine : Option Xid) (upto n i : ℕ) (xid : Xid) (b : Home) (kept : Kept)
     → length (kept_one mine upto i xid b (env.store (entry_at b i).newest) kept) ≤ length (kept_after env mine upto (suc n) i xid b kept)

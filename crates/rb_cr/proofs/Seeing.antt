@@ -4,14 +4,14 @@ use Rattle.std.proofs.Common.{Ok, refl, sym, ◌∙◌, ap, subst, arith}
 use Rattle.rb_base.specs.declared.ids.Xid.{Xid}
 use Rattle.rb_cr.specs.Parts.{Highest}
 use Rattle.rb_cr.specs.declared.visible.HighestEntry.{HighestEntry}
-use Rattle.rb_rebuild.specs.Chains.{spent, stepped}
-use Rattle.rb_rebuild.specs.Heights.{AtMost}
-use Rattle.rb_rebuild.specs.Keeping.{first_count}
-use Rattle.rb_rebuild.specs.Late.{late_above, seen_at, touched, touched_after, touched_go, touches}
-use Rattle.rb_rebuild.specs.Reading.{History, Reading, flat}
-use Rattle.rb_rebuild.specs.Turns.{Ends, Starts, Watched, WornIn}
-use Rattle.rb_walk.specs.Walk.{Change, Commit, Home, Env, Rows, entry_at, own}
-use Rattle.rb_rebuild.proofs.Watching.{watch_begins, watch_ends, watches}
+use Rattle.law_read.specs.Chains.{spent, stepped}
+use Rattle.law_read.specs.Heights.{AtMost}
+use Rattle.law_read.specs.Keeping.{first_count}
+use Rattle.law_read.specs.Late.{late_above, seen_at, touched, touched_after, touched_go, touches}
+use Rattle.law_read.specs.Reading.{History, Reading, flat}
+use Rattle.law_read.specs.Turns.{Ends, Starts, Watched, WornIn}
+use Rattle.law_home.specs.Walk.{Change, Commit, Home, Env, Rows, entry_at, own}
+use Rattle.law_read.proofs.Watching.{watch_begins, watch_ends, watches}
 
 -- a step of the loop over a chain
 pub touched_on : (env : Env) (key n k i : ℕ) (xid : Xid) (b b2 : Home) → k < n → stepped env i xid b ≡ Some b2

@@ -12,15 +12,15 @@ use Rattle.rb_cr.specs.Scratches.{scratch_home}
 use Rattle.rb_cr.specs.declared.faults.CrFault.{CrFault}
 use Rattle.rb_cr.specs.declared.scratch.Scratch.{Scratch}
 use Rattle.rb_cr.specs.declared.scratch.Snapshot.{Snapshot}
-use Rattle.rb_rebuild.specs.Copies.{Copied, Unseen}
-use Rattle.rb_rebuild.specs.Heights.{Over}
-use Rattle.rb_rebuild.specs.Keeping.{Kept, overlay}
-use Rattle.rb_rebuild.specs.Reading.{History, rows_in}
-use Rattle.rb_rebuild.proofs.Copying.{copy_shows}
-use Rattle.rb_rebuild.proofs.Unseen.{none_unseen, unseen_plain}
-use Rattle.rb_standing.specs.Says.{walk_cell}
-use Rattle.rb_standing.specs.Standing.{env_of, homes_of}
-use Rattle.rb_walk.specs.Walk.{Home, entry_at}
+use Rattle.law_read.specs.Copies.{Copied, Unseen}
+use Rattle.law_read.specs.Heights.{Over}
+use Rattle.law_read.specs.Keeping.{Kept, overlay}
+use Rattle.law_read.specs.Reading.{History, rows_in}
+use Rattle.law_read.proofs.Copying.{copy_shows}
+use Rattle.law_read.proofs.Unseen.{none_unseen, unseen_plain}
+use Rattle.law_blocks.specs.Says.{walk_cell}
+use Rattle.law_blocks.specs.Standing.{env_of, homes_of}
+use Rattle.law_home.specs.Walk.{Home, entry_at}
 
 module _ (shape : Shape) (blocks : List (List ℕ)) (kept : KeptHomes) (b : ℕ) (h : History) (snap : Snapshot) (read : IsReadWith shape blocks kept b h snap) (none : HasNoneIn shape blocks b snap) where
   unseen : Unseen h snap.own snap.upto snap.scn

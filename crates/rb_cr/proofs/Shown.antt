@@ -9,11 +9,11 @@ use Rattle.rb_cell.specs.declared.cell.Cell.{Cell}
 use Rattle.rb_cell.specs.declared.cell.TheConstants.{ROW, EMPTY}
 use Rattle.rb_cr.specs.Rows.{IsNext, cell_rows}
 use Rattle.rb_heap.specs.Homes.{empty_cell, home_of}
-use Rattle.rb_rebuild.specs.Reading.{or_else, rows_in}
+use Rattle.law_read.specs.Reading.{or_else, rows_in}
 use Rattle.rb_model.specs.declared.row.Row.{Row}
-use Rattle.rb_standing.specs.Says.{walk_cell}
-use Rattle.rb_walk.specs.Kinds as kinds
-use Rattle.rb_walk.specs.Walk.{Rows, row_of}
+use Rattle.law_blocks.specs.Says.{walk_cell}
+use Rattle.law_home.specs.Kinds as kinds
+use Rattle.law_home.specs.Walk.{Rows, row_of}
 
 -- the cells of a block
 pub cell_there : (block : List ℕ) (c : ℕ) → c < 16 → get_or (home_of block).cells c empty_cell ≡ cell_at block c

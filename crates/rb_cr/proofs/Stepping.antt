@@ -10,12 +10,12 @@ use Rattle.rb_cr.specs.declared.records.SegmentRecord.{SegmentRecord}
 use Rattle.rb_cr.specs.declared.scratch.Scratch.{Scratch}
 use Rattle.rb_cr.specs.declared.scratch.Snapshot.{Snapshot}
 use Rattle.rb_itl.specs.Entries.{free_entry as zero_entry}
-use Rattle.rb_rebuild.specs.Chains.{fits, applied, stepped}
-use Rattle.rb_rebuild.specs.Keeping.{Kept, keep, kept_one, kept_room}
-use Rattle.rb_rebuild.specs.Late.{touches}
-use Rattle.rb_standing.specs.Says.{place_of}
-use Rattle.rb_walk.specs.Kinds.{Entry, Undo}
-use Rattle.rb_walk.specs.Walk.{Env, Home, entry_at, back}
+use Rattle.law_read.specs.Chains.{fits, applied, stepped}
+use Rattle.law_read.specs.Keeping.{Kept, keep, kept_one, kept_room}
+use Rattle.law_read.specs.Late.{touches}
+use Rattle.law_blocks.specs.Says.{place_of}
+use Rattle.law_home.specs.Kinds.{Entry, Undo}
+use Rattle.law_home.specs.Walk.{Env, Home, entry_at, back}
 use Rattle.rb_cr.proofs.Tops.{entry_is}
 
 module _ (shape : Shape) (env : Env) (s : Scratch) (i : ℕ) (xid : Xid) (eight : length s.entries ≡ 8) (sixteen : length s.cells ≡ 16) (there : i < 8) (found : SegmentRecord)

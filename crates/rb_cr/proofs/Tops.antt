@@ -4,12 +4,12 @@ use Rattle.std.proofs.lemmas.List.{get_or-map}
 use Rattle.std.proofs.lemmas.Bool.{cases_eq}
 use Rattle.rb_base.specs.declared.faults.Failed.{Failed}
 use Rattle.rb_base.specs.declared.ids.Xid.{Xid}
-use Rattle.rb_rebuild.specs.Heights.{LookAtMost, StatusAtMost, AtMost}
-use Rattle.rb_standing.specs.Says.{walk_entry}
+use Rattle.law_read.specs.Heights.{LookAtMost, StatusAtMost, AtMost}
+use Rattle.law_blocks.specs.Says.{walk_entry}
 use Rattle.rb_txntable.specs.declared.looks.Look.{Look}
 use Rattle.rb_txntable.specs.declared.looks.Look.TheVariants.{Active, At, Before}
-use Rattle.rb_walk.specs.Kinds.{Entry, Status, Free, Open, Exact, Bound}
-use Rattle.rb_walk.specs.Walk.{Home, Env, entry_at, free_entry}
+use Rattle.law_home.specs.Kinds.{Entry, Status, Free, Open, Exact, Bound}
+use Rattle.law_home.specs.Walk.{Home, Env, entry_at, free_entry}
 use Rattle.rb_itl.specs.declared.slots.Entry as entries
 use Rattle.rb_itl.specs.Entries.{free_entry as zero_entry}
 use Rattle.rb_base.specs.declared.shape.Shape.{Shape}

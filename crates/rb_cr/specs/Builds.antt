@@ -4,8 +4,8 @@ use Rattle.rb_base.specs.declared.shape.Shape.{Shape}
 use Rattle.rb_cr.specs.Faults.{Because}
 use Rattle.rb_cr.specs.declared.faults.CrFault.{CrFault}
 use Rattle.rb_cr.specs.declared.scratch.Snapshot.{Snapshot}
-use Rattle.rb_rebuild.specs.Reading.{History, Reading, Worn}
-use Rattle.rb_standing.specs.Standing.{env_of, homes_of}
+use Rattle.law_read.specs.Reading.{History, Reading, Worn}
+use Rattle.law_blocks.specs.Standing.{env_of, homes_of}
 
 -- the home of a block stands for a history, by what the segments of the same blocks say, and may be read at a snapshot
 abbrev pub IsHomeRead : Shape → List (List ℕ) → ℕ → History → Snapshot → Type 0

@@ -2,7 +2,7 @@
 use Rattle.std.specs.Prelude.{◌≡◌, ◌≤◌, ℕ, Bool, true, false, not}
 use Rattle.rb_base.specs.Counts.{Rose}
 use Rattle.rb_base.specs.declared.shape.Shape.{Shape}
-use Rattle.rb_walk.specs.Walk.{Env}
+use Rattle.law_home.specs.Walk.{Env}
 
 -- the shape of a file, and what its segments say
 pub record Said : Type 0 where

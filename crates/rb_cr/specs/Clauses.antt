@@ -8,10 +8,10 @@ use Rattle.rb_cr.specs.Scratches.{scratch_home}
 use Rattle.rb_cr.specs.declared.faults.CrFault.{CrFault}
 use Rattle.rb_cr.specs.declared.scratch.Scratch.{Scratch}
 use Rattle.rb_cr.specs.declared.scratch.Snapshot.{Snapshot}
-use Rattle.rb_rebuild.specs.Keeping.{Kept, first_count, kept_room}
-use Rattle.rb_rebuild.specs.Reading.{History, Reader, Reading, Runs, Worn, answer, flat}
-use Rattle.rb_rebuild.specs.Turns.{Running, Starts}
-use Rattle.rb_walk.specs.Walk.{Change, Commit, Distinct, Home, Rows, own}
+use Rattle.law_read.specs.Keeping.{Kept, first_count, kept_room}
+use Rattle.law_read.specs.Reading.{History, Reader, Reading, Runs, Worn, answer, flat}
+use Rattle.law_read.specs.Turns.{Running, Starts}
+use Rattle.law_home.specs.Walk.{Change, Commit, Distinct, Home, Rows, own}
 
 abbrev pub StepsBack : Said → Snapshot → ℕ → Xid → Scratch → Scratch → Bool → Type 0
 StepsBack said snap i xid old new =

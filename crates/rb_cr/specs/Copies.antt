@@ -18,13 +18,13 @@ use Rattle.rb_cr.specs.declared.rows.Wanted.{Wanted}
 use Rattle.rb_cr.specs.declared.scratch.Scratch.{Scratch}
 use Rattle.rb_cr.specs.declared.scratch.Snapshot.{Snapshot}
 use Rattle.rb_model.specs.declared.row.Row.{Row}
-use Rattle.rb_rebuild.specs.Chains.{Counted}
-use Rattle.rb_rebuild.specs.Copies.{Copied, HasNone, IsTold}
-use Rattle.rb_rebuild.specs.Heights.{AtMost, Over}
-use Rattle.rb_rebuild.specs.Reading.{History, needed, rows_in}
-use Rattle.rb_standing.specs.Says.{walk_cell, walk_home}
-use Rattle.rb_standing.specs.Standing.{env_of, homes_of}
-use Rattle.rb_walk.specs.Walk.{Env, Home, entry_at, last}
+use Rattle.law_read.specs.Chains.{Counted}
+use Rattle.law_read.specs.Copies.{Copied, HasNone, IsTold}
+use Rattle.law_read.specs.Heights.{AtMost, Over}
+use Rattle.law_read.specs.Reading.{History, needed, rows_in}
+use Rattle.law_blocks.specs.Says.{walk_cell, walk_home}
+use Rattle.law_blocks.specs.Standing.{env_of, homes_of}
+use Rattle.law_home.specs.Walk.{Env, Home, entry_at, last}
 
 -- the home that is kept of block b
 abbrev pub home_kept : Shape → ℕ → KeptHome → Home

@@ -2,7 +2,7 @@
 use Rattle.std.specs.Prelude.{◌≡◌, ◌<◌, ℕ, Bool, true, false, Result, Ok, Err}
 use Rattle.rb_cr.specs.declared.faults.CrFault.{CrFault}
 use Rattle.rb_cr.specs.declared.faults.CrFault.TheVariants as faults
-use Rattle.rb_walk.specs.Walk.{Env}
+use Rattle.law_home.specs.Walk.{Env}
 
 abbrev pub is_fault : CrFault → Bool
 is_fault faults.Failed = true

@@ -8,10 +8,10 @@ use Rattle.rb_cr.specs.Scratches.{scratch_home}
 use Rattle.rb_cr.specs.declared.faults.CrFault.{CrFault}
 use Rattle.rb_cr.specs.declared.scratch.Scratch.{Scratch}
 use Rattle.rb_cr.specs.declared.scratch.Snapshot.{Snapshot}
-use Rattle.rb_rebuild.specs.Copies.{Copied, Unseen}
-use Rattle.rb_rebuild.specs.Keeping.{Kept, overlay}
-use Rattle.rb_rebuild.specs.Reading.{History, Honest, Worn, answer, count_above, rows_in}
-use Rattle.rb_walk.specs.Walk.{Home, Env, last}
+use Rattle.law_read.specs.Copies.{Copied, Unseen}
+use Rattle.law_read.specs.Keeping.{Kept, overlay}
+use Rattle.law_read.specs.Reading.{History, Honest, Worn, answer, count_above, rows_in}
+use Rattle.law_home.specs.Walk.{Home, Env, last}
 
 -- A decoded home that was kept at m, and the history of its block. None of the reader's first changes stands above n.
 pub record IsCopy (said : Said) (h : History) (snap : Snapshot) (m : ℕ) (s : Scratch) : Type 0 where

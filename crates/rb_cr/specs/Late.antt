@@ -6,9 +6,9 @@ use Rattle.rb_cr.specs.Scratches.{scratch_home}
 use Rattle.rb_cr.specs.declared.faults.CrFault.{CrFault}
 use Rattle.rb_cr.specs.declared.scratch.Scratch.{Scratch}
 use Rattle.rb_cr.specs.declared.watch.Watch.{Watch}
-use Rattle.rb_rebuild.specs.Late.{late_above, touched, touched_after, touches}
-use Rattle.rb_rebuild.specs.Turns.{Starts}
-use Rattle.rb_walk.specs.Walk.{Commit, Rows, entry_at}
+use Rattle.law_read.specs.Late.{late_above, touched, touched_after, touches}
+use Rattle.law_read.specs.Turns.{Starts}
+use Rattle.law_home.specs.Walk.{Commit, Rows, entry_at}
 
 -- the watch is on this key, and no commit that changes it was taken back
 abbrev pub IsFresh : Watch → ℕ → Type 0

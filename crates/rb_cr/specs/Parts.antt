@@ -5,13 +5,13 @@ use Rattle.rb_base.specs.declared.ids.Xid.{Xid}
 use Rattle.rb_cr.specs.Faults.{is_fault, Blames, Because}
 use Rattle.rb_cr.specs.declared.faults.CrFault.{CrFault}
 use Rattle.rb_cr.specs.declared.visible.HighestEntry.{HighestEntry}
-use Rattle.rb_rebuild.specs.Chains.{Counted, Stops, Whole, spent, stepped, unwound}
-use Rattle.rb_rebuild.specs.Heights.{AtMost, BeyondIn, Numbered, Over}
-use Rattle.rb_rebuild.specs.Keeping.{Kept, behind_mine, first_count, kept_after, kept_one, kept_room, kept_whole}
-use Rattle.rb_rebuild.specs.Keeping.{overlay}
-use Rattle.rb_rebuild.specs.Reading.{History, Worn, answer, count_above, flat, needed, rows_at, rows_in, total, up_to}
-use Rattle.rb_rebuild.specs.Turns.{Running, WornIn, WornLive}
-use Rattle.rb_walk.specs.Walk.{Change, Commit, Home, Env, Rows, Match, Walk, entry_at, own}
+use Rattle.law_read.specs.Chains.{Counted, Stops, Whole, spent, stepped, unwound}
+use Rattle.law_read.specs.Heights.{AtMost, BeyondIn, Numbered, Over}
+use Rattle.law_read.specs.Keeping.{Kept, behind_mine, first_count, kept_after, kept_one, kept_room, kept_whole}
+use Rattle.law_read.specs.Keeping.{overlay}
+use Rattle.law_read.specs.Reading.{History, Worn, answer, count_above, flat, needed, rows_at, rows_in, total, up_to}
+use Rattle.law_read.specs.Turns.{Running, WornIn, WornLive}
+use Rattle.law_home.specs.Walk.{Change, Commit, Home, Env, Rows, Match, Walk, entry_at, own}
 
 -- One record taken back and its row kept; else it is gone, or the room for rows is used up.
 abbrev pub Took : Env → Option Xid → ℕ → ℕ → Xid → Home → Kept → Home → Kept → Bool → Type 0

@@ -5,9 +5,9 @@ use Rattle.rb_base.specs.declared.ids.Xid.{Xid}
 use Rattle.rb_base.specs.declared.shape.Shape.{Shape}
 use Rattle.rb_cell.specs.declared.cell.TheConstants.{CELLS}
 use Rattle.rb_cr.specs.declared.records.SegmentRecord.{SegmentRecord}
-use Rattle.rb_rebuild.specs.Chains.{same_xid}
-use Rattle.rb_standing.specs.Says.{walk_undo}
-use Rattle.rb_walk.specs.Kinds.{Undo}
+use Rattle.law_read.specs.Chains.{same_xid}
+use Rattle.law_blocks.specs.Says.{walk_undo}
+use Rattle.law_home.specs.Kinds.{Undo}
 
 abbrev pub record_of : Shape → SegmentRecord → Undo
 record_of shape found = walk_undo shape found.seg found.undo

@@ -5,10 +5,10 @@ use Rattle.rb_cell.specs.declared.cell.Cell.{Cell}
 use Rattle.rb_cell.specs.declared.cell.TheConstants.{ROW}
 use Rattle.rb_heap.specs.Homes.{empty_cell, home_of}
 use Rattle.rb_model.specs.declared.row.Row.{Row}
-use Rattle.rb_rebuild.specs.Keeping.{Kept}
-use Rattle.rb_rebuild.specs.Reading.{rows_in}
-use Rattle.rb_standing.specs.Says.{walk_cell}
-use Rattle.rb_walk.specs.Walk.{Rows}
+use Rattle.law_read.specs.Keeping.{Kept}
+use Rattle.law_read.specs.Reading.{rows_in}
+use Rattle.law_blocks.specs.Says.{walk_cell}
+use Rattle.law_home.specs.Walk.{Rows}
 
 abbrev pub IsBehind : Option ℕ → ℕ → Type 0
 IsBehind None key = Unit {0}

@@ -7,11 +7,11 @@ use Rattle.rb_cr.specs.Records.{maker_of}
 use Rattle.rb_cr.specs.declared.records.SegmentRecord.{SegmentRecord}
 use Rattle.rb_cr.specs.declared.scratch.Scratch.{Scratch}
 use Rattle.rb_cr.specs.declared.scratch.Snapshot.{Snapshot}
-use Rattle.rb_rebuild.specs.Keeping.{Kept, has, is_first, is_held, overlay}
-use Rattle.rb_rebuild.specs.Reading.{rows_in}
-use Rattle.rb_standing.specs.Says.{sort_by, walk_cell, walk_home}
-use Rattle.rb_walk.specs.Kinds.{Empty}
-use Rattle.rb_walk.specs.Walk.{Home, Rows, row_of}
+use Rattle.law_read.specs.Keeping.{Kept, has, is_first, is_held, overlay}
+use Rattle.law_read.specs.Reading.{rows_in}
+use Rattle.law_blocks.specs.Says.{sort_by, walk_cell, walk_home}
+use Rattle.law_home.specs.Kinds.{Empty}
+use Rattle.law_home.specs.Walk.{Home, Rows, row_of}
 
 abbrev pub scratch_home : Shape → Scratch → Home
 scratch_home shape s = walk_home shape s.block (record { entries = s.entries; cells = s.cells })

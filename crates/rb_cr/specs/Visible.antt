@@ -3,10 +3,10 @@ use Rattle.std.specs.Prelude.{◌≡◌, ◌<◌, ◌≤◌, ℕ, Bool, true, fa
 use Rattle.rb_cr.specs.declared.visible.Top.{Top}
 use Rattle.rb_cr.specs.declared.visible.Top.TheVariants as tops
 use Rattle.rb_itl.specs.declared.slots.TheConstants.{ENTRIES}
-use Rattle.rb_rebuild.specs.Heights.{LookAtMost, LookNumbered, LookOver, AtMost, Numbered, Over}
+use Rattle.law_read.specs.Heights.{LookAtMost, LookNumbered, LookOver, AtMost, Numbered, Over}
 use Rattle.rb_txntable.specs.declared.looks.Look.{Look}
-use Rattle.rb_walk.specs.Kinds.{Entry}
-use Rattle.rb_walk.specs.Walk.{Home, Env, IsActive, entry_at}
+use Rattle.law_home.specs.Kinds.{Entry}
+use Rattle.law_home.specs.Walk.{Home, Env, IsActive, entry_at}
 
 -- the number by which a look, and an entry, stands above n: n where it doesn't, and none where no number is known
 abbrev pub LookStandsAbove : ℕ → Look → Option ℕ → Type 0

@@ -8,12 +8,12 @@ ghost use Rattle.rb_cr.specs.Clauses.{answer_to};
 ghost use Rattle.rb_cr.specs.Faults.{is_failed, is_fault};
 ghost use Rattle.rb_cr.specs.Late.{IsFresh};
 ghost use Rattle.rb_cr.specs.Scratches.{scratch_home, shown_by};
-ghost use Rattle.rb_rebuild.specs.Chains.{Counted};
-ghost use Rattle.rb_rebuild.specs.Copies.{Copied};
-ghost use Rattle.rb_rebuild.specs.Late.{late_above};
-ghost use Rattle.rb_rebuild.specs.Reading.{needed, History};
-ghost use Rattle.rb_standing.specs.Standing.{env_of, homes_of};
-ghost use Rattle.rb_walk.specs.Walk.{last};
+ghost use Rattle.law_read.specs.Chains.{Counted};
+ghost use Rattle.law_read.specs.Copies.{Copied};
+ghost use Rattle.law_read.specs.Late.{late_above};
+ghost use Rattle.law_read.specs.Reading.{needed, History};
+ghost use Rattle.law_blocks.specs.Standing.{env_of, homes_of};
+ghost use Rattle.law_home.specs.Walk.{last};
 
 use crate::faults::CrFault;
 use crate::restore::rebuild;

@@ -9,7 +9,7 @@ ghost use Rattle.rb_cr.specs.Reads.{Reads};
 ghost use Rattle.rb_cr.specs.Scratches.{scratch_home};
 ghost use Rattle.rb_cr.specs.Watches.{Stays};
 ghost use Rattle.rb_itl.specs.declared.slots.TheConstants.{ENTRIES};
-ghost use Rattle.rb_walk.specs.Walk.{entry_at};
+ghost use Rattle.law_home.specs.Walk.{entry_at};
 
 use crate::faults::CrFault;
 use crate::scratch::{Scratch, Snapshot, fits, take_back};

@@ -8,9 +8,9 @@ ghost use Rattle.rb_cr.specs.Copies.{home_kept};
 ghost use Rattle.rb_cr.specs.Reads.{Reads};
 ghost use Rattle.rb_cr.specs.Scratches.{scratch_home};
 ghost use Rattle.rb_heap.specs.Homes.{empty_cell};
-ghost use Rattle.rb_rebuild.specs.Chains.{is_own};
-ghost use Rattle.rb_rebuild.specs.Copies.{IsAway};
-ghost use Rattle.rb_walk.specs.Walk.{entry_at};
+ghost use Rattle.law_read.specs.Chains.{is_own};
+ghost use Rattle.law_read.specs.Copies.{IsAway};
+ghost use Rattle.law_home.specs.Walk.{entry_at};
 
 use crate::kept::copied;
 use crate::scratch::{Scratch, Snapshot, is_own};

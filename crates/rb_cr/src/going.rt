@@ -4,8 +4,8 @@ ghost use Rattle.rb_cr.specs.Faults.{is_failed};
 ghost use Rattle.rb_cr.specs.Going.{GoesFrom};
 ghost use Rattle.rb_cr.specs.Reads.{Reads};
 ghost use Rattle.rb_cr.specs.Scratches.{scratch_home};
-ghost use Rattle.rb_rebuild.specs.Heights.{Over};
-ghost use Rattle.rb_walk.specs.Walk.{entry_at};
+ghost use Rattle.law_read.specs.Heights.{Over};
+ghost use Rattle.law_home.specs.Walk.{entry_at};
 
 use crate::faults::CrFault;
 use crate::restore::rewind;

@@ -2,7 +2,7 @@
 ghost use Rattle.std.specs.Prelude.{◌≡◌, ◌++◌, ◌∷◌, [], ◌<◌, ◌≤◌, true, false, length, IfOk};
 ghost use Rattle.rb_cr.specs.Records.{kept_items, row_items};
 ghost use Rattle.rb_cr.specs.Rows.{kept_key, kept_row};
-ghost use Rattle.rb_rebuild.specs.Keeping.{has};
+ghost use Rattle.law_read.specs.Keeping.{has};
 
 use arrayvec::ArrayVec;
 use rb_base::{NoMemory, VALUE_BYTES, array_of};
@@ -37,7 +37,7 @@ pub struct KeptRows {
 impl Model for KeptRows {
     ghost use Rattle.std.specs.Prelude.{◌≤◌, vec_capacity};
     ghost use Rattle.rb_cr.specs.KeptRows.{kept_of};
-    ghost use Rattle.rb_rebuild.specs.Keeping.{Kept, kept_room};
+    ghost use Rattle.law_read.specs.Keeping.{Kept, kept_room};
 
     ghost Value = { Kept };
 

@@ -5,8 +5,8 @@ ghost use Rattle.rb_base.specs.Blocks.{home_block, shape_blocks};
 ghost use Rattle.rb_base.specs.Logs.{Logs};
 ghost use Rattle.rb_cr.specs.Builds.{IsHomeRead, IsHomeOld};
 ghost use Rattle.rb_cr.specs.Faults.{is_failed};
-ghost use Rattle.rb_rebuild.specs.Late.{late_above};
-ghost use Rattle.rb_rebuild.specs.Reading.{History};
+ghost use Rattle.law_read.specs.Late.{late_above};
+ghost use Rattle.law_read.specs.Reading.{History};
 
 use crate::blocks::build;
 use crate::faults::CrFault;

@@ -11,7 +11,7 @@ ghost use Rattle.rb_cr.specs.Copies.{HasNoneIn, IsQuiet, IsReadWith, Keeps, Next
 ghost use Rattle.rb_cr.specs.Copies.{lsn_at};
 ghost use Rattle.rb_cr.specs.Faults.{is_failed, is_fault};
 ghost use Rattle.rb_cr.specs.Rows.{IsNext, IsWanted};
-ghost use Rattle.rb_rebuild.specs.Reading.{History};
+ghost use Rattle.law_read.specs.Reading.{History};
 
 use crate::blocks::build;
 use crate::faults::CrFault;

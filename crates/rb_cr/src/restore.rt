@@ -12,12 +12,12 @@ ghost use Rattle.rb_cr.specs.Reads.{Reads};
 ghost use Rattle.rb_cr.specs.Scratches.{scratch_home, shown_by};
 ghost use Rattle.rb_cr.specs.Watches.{Stays};
 ghost use Rattle.rb_itl.specs.declared.slots.TheConstants.{ENTRIES};
-ghost use Rattle.rb_rebuild.specs.Chains.{Counted};
-ghost use Rattle.rb_rebuild.specs.Copies.{Copied};
-ghost use Rattle.rb_rebuild.specs.Late.{late_above};
-ghost use Rattle.rb_rebuild.specs.Reading.{needed, History};
-ghost use Rattle.rb_standing.specs.Says.{walk_entry};
-ghost use Rattle.rb_walk.specs.Walk.{last};
+ghost use Rattle.law_read.specs.Chains.{Counted};
+ghost use Rattle.law_read.specs.Copies.{Copied};
+ghost use Rattle.law_read.specs.Late.{late_above};
+ghost use Rattle.law_read.specs.Reading.{needed, History};
+ghost use Rattle.law_blocks.specs.Says.{walk_entry};
+ghost use Rattle.law_home.specs.Walk.{last};
 
 use crate::chains::{too_old, unwind_at};
 use crate::faults::CrFault;

@@ -6,8 +6,8 @@ ghost use Rattle.rb_cr.specs.Records.{row_items};
 ghost use Rattle.rb_cr.specs.Rows.{IsNext, IsWanted, IsFound, Reaches, kept_key};
 ghost use Rattle.rb_heap.specs.Homes.{empty_cell};
 ghost use Rattle.rb_cr.specs.Scratches.{shown_by, shown_over};
-ghost use Rattle.rb_rebuild.specs.Reading.{rows_in};
-ghost use Rattle.rb_standing.specs.Says.{walk_cell};
+ghost use Rattle.law_read.specs.Reading.{rows_in};
+ghost use Rattle.law_blocks.specs.Says.{walk_cell};
 
 use crate::kept::KeptRows;
 use crate::scratch::{Scratch, row_in};

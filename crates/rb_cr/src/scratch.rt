@@ -5,11 +5,11 @@ ghost use Rattle.rb_cr.specs.Records.{maker_of, names_at, record_of, row_items};
 ghost use Rattle.rb_cr.specs.Scratches.{kept_with, scratch_home, shown_by, shown_in};
 ghost use Rattle.rb_cr.specs.Watches.{Stays};
 ghost use Rattle.rb_heap.specs.Homes.{empty_cell, home_of};
-ghost use Rattle.rb_rebuild.specs.Chains.{fits, is_own, leads_back, number_falls, same_xid};
-ghost use Rattle.rb_rebuild.specs.Keeping.{is_first, is_held, kept_room};
-ghost use Rattle.rb_rebuild.specs.Late.{touches};
-ghost use Rattle.rb_standing.specs.Says.{walk_cell, walk_entry, sort_by};
-ghost use Rattle.rb_walk.specs.Walk.{row_of, back as taken_back};
+ghost use Rattle.law_read.specs.Chains.{fits, is_own, leads_back, number_falls, same_xid};
+ghost use Rattle.law_read.specs.Keeping.{is_first, is_held, kept_room};
+ghost use Rattle.law_read.specs.Late.{touches};
+ghost use Rattle.law_blocks.specs.Says.{walk_cell, walk_entry, sort_by};
+ghost use Rattle.law_home.specs.Walk.{row_of, back as taken_back};
 
 use crate::kept::{KeptRows, copied};
 use crate::records::SegmentRecord;

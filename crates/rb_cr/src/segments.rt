@@ -3,7 +3,7 @@ ghost use Rattle.std.specs.Prelude.{◌≡◌, ℕ, Bool, false, true, not, IfOk
 ghost use Rattle.std.specs.Result.{is_err};
 ghost use Rattle.rb_cr.specs.Calls.{OnlyReads, Said};
 ghost use Rattle.rb_cr.specs.Records.{walk_found};
-ghost use Rattle.rb_standing.specs.Says.{place_of};
+ghost use Rattle.law_blocks.specs.Says.{place_of};
 
 use crate::records::SegmentRecord;
 use rb_base::{Failed, Scn, Uba, Xid};

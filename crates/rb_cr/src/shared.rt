@@ -13,7 +13,7 @@ ghost use Rattle.rb_cr.specs.Copies.{BuiltAt, HasNoneIn, IsFree, IsReadWith, IsU
 ghost use Rattle.rb_cr.specs.Copies.{Keeps, ServesAt, Turns, begun, lsn_at};
 ghost use Rattle.rb_cr.specs.Faults.{is_failed, is_fault};
 ghost use Rattle.rb_cr.specs.Scratches.{shown_by};
-ghost use Rattle.rb_rebuild.specs.Reading.{History, count_above, needed};
+ghost use Rattle.law_read.specs.Reading.{History, count_above, needed};
 
 use crate::blocks::build;
 use crate::copies::is_away;

@@ -2,7 +2,7 @@
 ghost use Rattle.std.specs.Prelude.{◌≡◌, false, []};
 ghost use Rattle.rb_base.specs.Blocks.{AreBlocks};
 ghost use Rattle.rb_base.specs.Logs.{Logs, more_logs, no_logs};
-ghost use Rattle.rb_standing.specs.Standing.{env_of};
+ghost use Rattle.law_blocks.specs.Standing.{env_of};
 
 use crate::reads::{read_look, read_lost, read_record};
 use crate::records::SegmentRecord;

@@ -10,10 +10,10 @@ ghost use Rattle.rb_cr.specs.Reads.{Reads};
 ghost use Rattle.rb_cr.specs.Scratches.{scratch_home};
 ghost use Rattle.rb_cr.specs.Visible.{StandsAbove, LookStandsAbove, IsTop, IsTopWithin};
 ghost use Rattle.rb_heap.specs.Homes.{home_of};
-ghost use Rattle.rb_rebuild.specs.Heights.{AtMost};
-ghost use Rattle.rb_standing.specs.Says.{walk_entry, walk_home};
+ghost use Rattle.law_read.specs.Heights.{AtMost};
+ghost use Rattle.law_blocks.specs.Says.{walk_entry, walk_home};
 ghost use Rattle.rb_txntable.specs.declared.looks.Look.TheVariants.{Before};
-ghost use Rattle.rb_walk.specs.Walk.{Env, entry_at};
+ghost use Rattle.law_home.specs.Walk.{Env, entry_at};
 
 use crate::scratch::Scratch;
 use crate::segments::Segments;

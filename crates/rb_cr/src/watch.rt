@@ -3,8 +3,8 @@
 ghost use Rattle.std.specs.Prelude.{◌≡◌, ◌||◌, ℕ, false, None, Some};
 ghost use Rattle.rb_base.specs.declared.shape.Shape.{Shape};
 ghost use Rattle.rb_cr.specs.Watches.{Stays};
-ghost use Rattle.rb_rebuild.specs.Late.{seen_at, touches};
-ghost use Rattle.rb_standing.specs.Says.{walk_undo};
+ghost use Rattle.law_read.specs.Late.{seen_at, touches};
+ghost use Rattle.law_blocks.specs.Says.{walk_undo};
 
 use crate::scratch::holds;
 use rb_base::Scn;

@@ -21,33 +21,33 @@ use Rattle.rb_engine.specs.Scanning.{HasKey, HasNext, HasNone, IsBehind, IsReade
 use Rattle.rb_engine.proofs.DoesLemmas.{fault_survives, holds_logged, survives_same}
 use Rattle.rb_heap.specs.Cleaning.{cleaned_home}
 use Rattle.rb_heap.specs.Homes.{home_of}
-use Rattle.rb_image.specs.Crash.{Survives}
-use Rattle.rb_image.specs.Holds.{Holds}
-use Rattle.rb_image.specs.Made.{CleanMade, GivesAny}
-use Rattle.rb_image.proofs.Crashes.{survives_on}
-use Rattle.rb_image.proofs.StepsHeld.{clean_fault, holds_cleaned}
+use Rattle.law_crash.specs.Crash.{Survives}
+use Rattle.law_crash.specs.Holds.{Holds}
+use Rattle.law_crash.specs.Made.{CleanMade, GivesAny}
+use Rattle.law_crash.proofs.Crashes.{survives_on}
+use Rattle.law_crash.proofs.StepsHeld.{clean_fault, holds_cleaned}
 use Rattle.rb_model.specs.Calls.{Call}
 use Rattle.rb_model.specs.State.{State}
 use Rattle.rb_model.specs.declared.row.Row.{Row}
-use Rattle.rb_rebuild.specs.Heights.{BeyondIn, StatusBeyond}
-use Rattle.rb_rebuild.specs.Reading.{History, Worn}
+use Rattle.law_read.specs.Heights.{BeyondIn, StatusBeyond}
+use Rattle.law_read.specs.Reading.{History, Worn}
 use Rattle.rb_restart.proofs.Slots.{owed_is}
 use Rattle.rb_segment.specs.Header.{Segment}
 use Rattle.rb_segment.specs.Segments.{owed_in}
 use Rattle.rb_sessions.specs.declared.cursor.Cursor.{Cursor}
-use Rattle.rb_standing.proofs.CleanedSound.{home_walked}
-use Rattle.rb_standing.specs.Says.{says, walk_home}
-use Rattle.rb_standing.specs.Standing.{env_of, homes_of, segments_of}
-use Rattle.rb_standing.specs.States.{BlocksStand, lives_of, past_of}
-use Rattle.rb_standing.specs.Values.{owed, rows_here}
+use Rattle.law_blocks.proofs.CleanedSound.{home_walked}
+use Rattle.law_blocks.specs.Says.{says, walk_home}
+use Rattle.law_blocks.specs.Standing.{env_of, homes_of, segments_of}
+use Rattle.law_blocks.specs.States.{BlocksStand, lives_of, past_of}
+use Rattle.law_blocks.specs.Values.{owed, rows_here}
 use Rattle.rb_txntable.specs.declared.looks.Look.{Look}
 use Rattle.rb_txntable.specs.declared.looks.Look.TheVariants.{Active, At, Before}
-use Rattle.rb_views.specs.Laws.{rows_seen}
-use Rattle.rb_views.specs.Views.{history, home_in, reader_slot}
-use Rattle.rb_walk.specs.Homes.{here, narrow}
-use Rattle.rb_walk.specs.Kinds.{Status, Free, Open, Exact, Bound}
-use Rattle.rb_walk.specs.Steps.{cleaned, cleaned_entry, cleaned_status, told_by}
-use Rattle.rb_walk.specs.Walk.{Env, Home, entry_at, free_entry}
+use Rattle.law_sessions.specs.Laws.{rows_seen}
+use Rattle.law_sessions.specs.Views.{history, home_in, reader_slot}
+use Rattle.law_home.specs.Homes.{here, narrow}
+use Rattle.law_home.specs.Kinds.{Status, Free, Open, Exact, Bound}
+use Rattle.law_home.specs.Steps.{cleaned, cleaned_entry, cleaned_status, told_by}
+use Rattle.law_home.specs.Walk.{Env, Home, entry_at, free_entry}
 
 -- Where the segments are the same, so is all that they say.
 
@@ -75,17 +75,17 @@ module _ (h : State) (xids : List Xid) (before now : List (List ℕ)) (m : Curso
     low = reader.low;
     name = reader.name;
     cursor = reader.cursor;
-    is = subst (λ (env : Env). Rattle.rb_views.specs.Views.IsCursor h xids env reader.session (record { name = reader.name; cursor = m }) reader.cursor) (sym same) reader.is;
+    is = subst (λ (env : Env). Rattle.law_sessions.specs.Views.IsCursor h xids env reader.session (record { name = reader.name; cursor = m }) reader.cursor) (sym same) reader.is;
   }
 
   seen_same : (g : ℕ) → rows_seen h xids now m g ≡ rows_seen h xids before m g
-  seen_same g = ap (λ (hist : History). Rattle.rb_rebuild.specs.Reading.answer hist m.own m.upto m.scn) (history_same h xids before now (home_in h.shape m.table g) m.own same)
+  seen_same g = ap (λ (hist : History). Rattle.law_read.specs.Reading.answer hist m.own m.upto m.scn) (history_same h xids before now (home_in h.shape m.table g) m.own same)
 
   pub none_same : (g : ℕ) → HasNone h xids now m g → HasNone h xids before m g
-  none_same g none = subst (λ (rows : ℕ → Option (List ℕ)). Rattle.rb_views.specs.Scan.NoneIn h.shape.blocks m.lo m.hi m.last rows g) (seen_same g) none
+  none_same g none = subst (λ (rows : ℕ → Option (List ℕ)). Rattle.law_sessions.specs.Scan.NoneIn h.shape.blocks m.lo m.hi m.last rows g) (seen_same g) none
 
   pub next_same : (g : ℕ) (row : Row) → HasNext h xids now m g row → HasNext h xids before m g row
-  next_same g row next = subst (λ (rows : ℕ → Option (List ℕ)). Rattle.rb_views.specs.Scan.IsNextIn h.shape.blocks m.lo m.hi m.last rows g row.key row.value.items) (seen_same g) next
+  next_same g row next = subst (λ (rows : ℕ → Option (List ℕ)). Rattle.law_sessions.specs.Scan.IsNextIn h.shape.blocks m.lo m.hi m.last rows g row.key row.value.items) (seen_same g) next
 
 -- A home that can't be read once it is cleaned couldn't be read before.
 
@@ -93,10 +93,10 @@ status_beyond : (env : Env) (n : ℕ) (x : Xid) (st : Status) → StatusBeyond e
 status_beyond env n x Free is = is
 status_beyond env n x Open is = by (env.look x) refl is
   where
-    by : (l : Look) → env.look x ≡ l → StatusBeyond env n x (told_by (env.look x)) → Rattle.rb_rebuild.specs.Heights.LookBeyond n (env.look x)
+    by : (l : Look) → env.look x ≡ l → StatusBeyond env n x (told_by (env.look x)) → Rattle.law_read.specs.Heights.LookBeyond n (env.look x)
     by Active e told = subst (λ (l : Look). StatusBeyond env n x (told_by l)) e told
     by (At c) e told = absurd (subst (λ (l : Look). StatusBeyond env n x (told_by l)) e told)
-    by (Before b) e told = subst (λ (l : Look). Rattle.rb_rebuild.specs.Heights.LookBeyond n l) (sym e) (subst (λ (l : Look). StatusBeyond env n x (told_by l)) e told)
+    by (Before b) e told = subst (λ (l : Look). Rattle.law_read.specs.Heights.LookBeyond n l) (sym e) (subst (λ (l : Look). StatusBeyond env n x (told_by l)) e told)
 status_beyond env n x (Exact c) is = is
 status_beyond env n x (Bound b) is = is
 

@@ -1,18 +1,18 @@
 -- The homes that are kept for readers, as calls change what they stand for.
 use Rattle.std.proofs.Common.{◌≡◌, ◌≤◌, ◌++◌, ℕ, List, [], ◌∷◌, sym, ap, subst}
-use Rattle.rb_aging.specs.Kept.{SegmentsAge}
+use Rattle.law_aging.specs.Kept.{SegmentsAge}
 use Rattle.rb_base.specs.declared.ids.Xid.{Xid}
 use Rattle.rb_copies.specs.Copies.{CopyTable}
 use Rattle.rb_engine.specs.Does.{Kept, Knows, with_copies}
-use Rattle.rb_image.specs.Made.{CommitMade, WriteMade}
+use Rattle.law_crash.specs.Made.{CommitMade, WriteMade}
 use Rattle.rb_model.specs.Calls.{Action, Owned}
 use Rattle.rb_model.specs.NextState.{committed}
 use Rattle.rb_model.specs.State.{State}
-use Rattle.rb_outliving.specs.Copies.{CopiesStand}
-use Rattle.rb_outliving.proofs.Ages.{write_ages}
-use Rattle.rb_outliving.proofs.Outliving.{commit_keeps_all, older_keeps, same_keeps}
-use Rattle.rb_standing.specs.Standing.{segments_of}
-use Rattle.rb_standing.specs.States.{BlocksStand}
+use Rattle.law_copies.specs.Copies.{CopiesStand}
+use Rattle.law_copies.proofs.Ages.{write_ages}
+use Rattle.law_copies.proofs.Outliving.{commit_keeps_all, older_keeps, same_keeps}
+use Rattle.law_blocks.specs.Standing.{segments_of}
+use Rattle.law_blocks.specs.States.{BlocksStand}
 
 -- over calls that change no block
 pub copies_same : (h h2 : State) (xids : List Xid) (before now : List (List ℕ)) (old new : CopyTable) → h2.shape ≡ h.shape → h2.commits ≡ h.commits → now ≡ before → new ≡ old → CopiesStand h xids before old.kept → CopiesStand h2 xids now new.kept

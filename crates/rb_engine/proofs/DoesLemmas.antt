@@ -12,14 +12,14 @@ use Rattle.rb_engine.specs.Checks.{Refuses}
 use Rattle.rb_engine.proofs.FewLemmas.{grows_few}
 use Rattle.rb_engine.specs.Does.{Does, EngineView, Goes, Kept, Keeps as Retained, Knows, KnowsQueue, SameStore, Stands}
 use Rattle.rb_engine.proofs.QueueLemmas.{knows_same}
-use Rattle.rb_image.specs.Between.{MarksGrow}
-use Rattle.rb_image.specs.Crash.{Survives}
-use Rattle.rb_image.specs.Holds.{Holds}
-use Rattle.rb_image.specs.Images.{HasState}
-use Rattle.rb_image.proofs.Crashes.{grow_same, has_later}
-use Rattle.rb_image.proofs.Steps.{keeps_on, none_each, read_has, survives_going}
+use Rattle.law_crash.specs.Between.{MarksGrow}
+use Rattle.law_crash.specs.Crash.{Survives}
+use Rattle.law_crash.specs.Holds.{Holds}
+use Rattle.law_crash.specs.Images.{HasState}
+use Rattle.law_crash.proofs.Crashes.{grow_same, has_later}
+use Rattle.law_crash.proofs.Steps.{keeps_on, none_each, read_has, survives_going}
 use Rattle.rb_model.specs.Book.{book_at}
-use Rattle.rb_model.specs.Calls.{Answer, Call, Fetch, Marked, Refused, Reply, early_tests, failed_in, is_disk_fault, is_fault, none_applies}
+use Rattle.rb_model.specs.Calls.{Answer, Call, Fetch, Marked, Refused, MayAnswer, early_tests, failed_in, is_disk_fault, is_fault, none_applies}
 use Rattle.rb_model.specs.NextState.{After, Grows, with_cursors}
 use Rattle.rb_model.specs.Rows.{last_scn, rows_at}
 use Rattle.rb_model.specs.State.{Cursor, Session, State, session_of, session_own}
@@ -29,12 +29,12 @@ use Rattle.rb_model.proofs.Stops.{after_shape, after_stops, fine_stays, other_re
 use Rattle.rb_ring.specs.Ring.{lost_number, record_count}
 use Rattle.rb_segment.specs.Header.{Header, header_of}
 use Rattle.rb_sessions.specs.Kept.{KeptSession}
-use Rattle.rb_standing.specs.Standing.{env_of, logged_of, segments_of}
-use Rattle.rb_standing.specs.States.{BlocksStand}
-use Rattle.rb_standing.proofs.SegmentRead.{header_is}
-use Rattle.rb_undoengine.proofs.Finishing.{cursors_free}
-use Rattle.rb_verdict.proofs.Told as told
-use Rattle.rb_views.specs.Views.{Remembers}
+use Rattle.law_blocks.specs.Standing.{env_of, logged_of, segments_of}
+use Rattle.law_blocks.specs.States.{BlocksStand}
+use Rattle.law_blocks.proofs.SegmentRead.{header_is}
+use Rattle.rb_steps.proofs.Finishing.{cursors_free}
+use Rattle.law_write.proofs.Told as told
+use Rattle.law_sessions.specs.Views.{Remembers}
 
 -- no call changes how many sessions there are
 pub after_sessions : (h h2 : State) (c : Call) (r : Answer) → After h c r h2 → length h2.sessions ≡ length h.sessions
@@ -68,7 +68,7 @@ with_session h who session = record h { sessions = set h.sessions (who - 1) sess
 module _ {S : Type 0} (s : Ghosts S) where
   -- from the state after the call, and what the store and the table have of it unless it is stopped
   pub does_by : (h now : State) (call : Call) (answer : Answer) (old new : EngineView S) (n : ℕ) → Stands s h old
-      → Reply h (s.lsn old.store) call answer → After h call answer now → (h.stopped ≡ false → Retained h call answer now)
+      → MayAnswer h (s.lsn old.store) call answer → After h call answer now → (h.stopped ≡ false → Retained h call answer now)
       → Knows now new.memory → SameStore s old.store new.store
       → (now.stopped ≡ false → Grows h call answer n × (s.lsn new.store ≡ s.lsn old.store + n) × Goes s now new)
       → ((before : Option Call) → h.stopped ≡ false → s.keeps → Survives s (s.slots old.store) (failed_in call answer before) h now old.store new.store)
@@ -144,7 +144,7 @@ module _ {S : Type 0} (s : Ghosts S) where
 
     -- A call that does nothing but load or make groups last, with an answer that leaves the state.
     pub does_loaded : {Between : S → S → Type 0} (h : State) (call : Call) (answer : Answer) (old new : EngineView S) → Stands s h old
-        → Reply h (s.lsn old.store) call answer → After h call answer h → Grows h call answer 0 → Retained h call answer h
+        → MayAnswer h (s.lsn old.store) call answer → After h call answer h → Grows h call answer 0 → Retained h call answer h
         → new.memory ≡ old.memory → (h.stopped ≡ false → LogsBy s Between old.store new.store [] true) → SameStore s old.store new.store → Does s h call answer old new
     does_loaded h call answer old new st reply after grows retains memory logs same =
         does_by h h call answer old new 0 st reply after (λ _. retains) (subst (Knows h) (sym memory) st.knows) same
@@ -157,7 +157,7 @@ module _ {S : Type 0} (s : Ghosts S) where
         → SameStore s old.store new.store → (s.keeps → Survives s (s.slots old.store) (Some call) h (record h { stopped = true }) old.store new.store)
         → Does s h call (Refused DiskFault) old new
     does_fault_known h call old new st early knows same survives =
-        does_by h (record h { stopped = true }) call (Refused DiskFault) old new 0 st (Reply.fault early refl) refl (λ _ s t k a is done. cc) knows same
+        does_by h (record h { stopped = true }) call (Refused DiskFault) old new 0 st (MayAnswer.fault early refl) refl (λ _ s t k a is done. cc) knows same
         (λ clash. absurd (false≢true (sym clash)))
         (λ before going keeps. survives keeps)
 
@@ -174,7 +174,7 @@ module _ {S : Type 0} (s : Ghosts S) where
     -- A call that changed what one session has beside its changes, and perhaps loaded blocks.
     pub does_session : (h : State) (call : Call) (answer : Answer) (who : ℕ) (session : Session) (old new : EngineView S) → Stands s h old → h.stopped ≡ false
         → (1 ≤ who) × (who ≤ length h.sessions) → session.own ≡ session_own h who
-        → Reply h (s.lsn old.store) call answer → After h call answer (with_session h who session) → Grows h call answer 0
+        → MayAnswer h (s.lsn old.store) call answer → After h call answer (with_session h who session) → Grows h call answer 0
         → Retained h call answer (with_session h who session) → is_fault answer ≡ false
         → new.memory.stopped ≡ old.memory.stopped → new.memory.scn ≡ old.memory.scn → new.memory.waits ≡ old.memory.waits → new.memory.copies ≡ old.memory.copies → map (λ k. k.asked) new.memory.sessions ≡ map (λ k. k.asked) old.memory.sessions
         → ((xids : List Xid) → BlocksStand h xids (s.blocks old.store) → Remembers h xids (env_of h.shape (s.blocks old.store)) old.memory.sessions → Remembers (with_session h who session) xids (env_of h.shape (s.blocks old.store)) new.memory.sessions)
@@ -199,7 +199,7 @@ module _ {S : Type 0} (s : Ghosts S) where
     -- One that changed its cursors alone.
     pub does_cursors : (h : State) (call : Call) (answer : Answer) (who : ℕ) (cursors : List Cursor) (old new : EngineView S) → Stands s h old → h.stopped ≡ false
         → (1 ≤ who) × (who ≤ length h.sessions)
-        → Reply h (s.lsn old.store) call answer → After h call answer (with_cursors h who cursors) → Grows h call answer 0
+        → MayAnswer h (s.lsn old.store) call answer → After h call answer (with_cursors h who cursors) → Grows h call answer 0
         → Retained h call answer (with_cursors h who cursors) → is_fault answer ≡ false
         → new.memory.stopped ≡ old.memory.stopped → new.memory.scn ≡ old.memory.scn → new.memory.waits ≡ old.memory.waits → new.memory.copies ≡ old.memory.copies → map (λ k. k.asked) new.memory.sessions ≡ map (λ k. k.asked) old.memory.sessions
         → ((xids : List Xid) → BlocksStand h xids (s.blocks old.store) → Remembers h xids (env_of h.shape (s.blocks old.store)) old.memory.sessions → Remembers (with_cursors h who cursors) xids (env_of h.shape (s.blocks old.store)) new.memory.sessions)
@@ -238,12 +238,12 @@ refused_none h call _ = refl
 pub does_refused : {S : Type 0} (s : Ghosts S) (laws : Laws s) (h : State) (call : Call) (why : Refusal) (old : EngineView S) → Stands s h old
     → (old.memory.stopped ≡ false → s.failed old.store ≡ false) → Refuses (early_tests h call) why → why ≢ DiskFault → Does s h call (Refused why) old old
 does_refused s laws h call why old st runs refuses other =
-    does_loaded s st.told laws h call (Refused why) old old st (Reply.early refuses.0 refuses.1) (rw (other_refusal why other) refl) (refused_none h call why) (λ s t k a is done. cc) refl
+    does_loaded s st.told laws h call (Refused why) old old st (MayAnswer.early refuses.0 refuses.1) (rw (other_refusal why other) refl) (refused_none h call why) (λ s t k a is done. cc) refl
     (λ going. no_logs s old.store (runs (st.knows.stopped ∙ going))) (record { shape = refl; slots = refl })
 
 -- A later test refuses it.
 pub does_refused_late : {S : Type 0} (s : Ghosts S) (laws : Laws s) (h : State) (call : Call) (why : Refusal) (old : EngineView S) → Stands s h old
-    → (old.memory.stopped ≡ false → s.failed old.store ≡ false) → Reply h (s.lsn old.store) call (Refused why) → why ≢ DiskFault → Does s h call (Refused why) old old
+    → (old.memory.stopped ≡ false → s.failed old.store ≡ false) → MayAnswer h (s.lsn old.store) call (Refused why) → why ≢ DiskFault → Does s h call (Refused why) old old
 does_refused_late s laws h call why old st runs reply other =
     does_loaded s st.told laws h call (Refused why) old old st reply (rw (other_refusal why other) refl) (refused_none h call why) (λ s t k a is done. cc) refl
     (λ going. no_logs s old.store (runs (st.knows.stopped ∙ going))) (record { shape = refl; slots = refl })

@@ -1,7 +1,7 @@
 -- What a search for a cursor's next row finds, from what the rebuilds of homes show, and what a fetch makes of it.
 use Rattle.std.proofs.Common.{not, ap, map, ◌-◌, ◌≡◌, inl, inr, ◌<◌, ◌≤◌, ◌%◌, ◌==◌, ◌&&◌, ◌||◌, nat_lt, if◌then◌else◌, ℕ, Bool, true, false, List, [], length, Option, Some, None, Result, Ok, Err, IfOk, IfErr, refl, sym, ◌∙◌, subst, arith, is_none, ◌∷◌}
 use Rattle.rb_engine.specs.Does.{with_copies}
-use Rattle.rb_outliving.specs.Copies.{CopiesStand}
+use Rattle.law_copies.specs.Copies.{CopiesStand}
 use Rattle.rb_engine.proofs.CopyLemmas.{copies_same, knows_copies}
 use Rattle.std.proofs.lemmas.Bool.{cases_Bool, cond_both}
 use Rattle.std.proofs.lemmas.Bool.Decides.{nat_tests}
@@ -22,24 +22,24 @@ use Rattle.rb_engine.proofs.SeenHomes.{seen_in_home}
 use Rattle.rb_model.specs.Next.{is_after}
 use Rattle.rb_model.specs.State.{Session, State, cursor_of, is_session, is_waiting, session_of}
 use Rattle.rb_model.specs.declared.row.Row.{Row}
-use Rattle.rb_rebuild.specs.Reading.{Reading}
+use Rattle.law_read.specs.Reading.{Reading}
 use Rattle.rb_sessions.specs.declared.cursor.Cursor.{Cursor}
-use Rattle.rb_standing.specs.Standing.{env_of, homes_of}
-use Rattle.rb_views.specs.Laws.{rows_seen}
-use Rattle.rb_views.specs.Scan.{IsAskedKey}
-use Rattle.rb_views.specs.Views.{history, home_in, IsCursor, Remembers}
-use Rattle.rb_views.proofs.Fetching as views
+use Rattle.law_blocks.specs.Standing.{env_of, homes_of}
+use Rattle.law_sessions.specs.Laws.{rows_seen}
+use Rattle.law_sessions.specs.Scan.{IsAskedKey}
+use Rattle.law_sessions.specs.Views.{history, home_in, IsCursor, Remembers}
+use Rattle.law_sessions.proofs.Fetching as views
 use Rattle.rb_engine.specs.Does.{Does, EngineView, Goes, Kept, Knows, SameStore, Stands}
 use Rattle.rb_engine.proofs.CleanLemmas.{env_same}
 use Rattle.rb_engine.proofs.DoesLemmas.{after_sessions, does_by, holds_session, knows_on, survives_same}
 use Rattle.rb_engine.specs.Cleaning.{CleansRead, HasCleaned, MustIn, ReadIn, Serves}
 use Rattle.rb_engine.specs.Makes.{ReadBy}
-use Rattle.rb_image.proofs.Crashes.{survives_on}
-use Rattle.rb_image.specs.Crash.{Survives}
-use Rattle.rb_walk.specs.Walk.{Env}
+use Rattle.law_crash.proofs.Crashes.{survives_on}
+use Rattle.law_crash.specs.Crash.{Survives}
+use Rattle.law_home.specs.Walk.{Env}
 use Rattle.rb_engine.proofs.LateLemmas.{old_reply}
 use Rattle.rb_model.specs.Calls as machine
-use Rattle.rb_model.specs.Calls.{Answer, Refused, Reply, early_tests, is_fault, none_applies, next_row, session_tests}
+use Rattle.rb_model.specs.Calls.{Answer, Refused, MayAnswer, early_tests, is_fault, none_applies, next_row, session_tests}
 use Rattle.rb_model.specs.NextState.{After, Grows, cursors_of, with_cursors, with_taken}
 use Rattle.rb_model.specs.State as state
 use Rattle.rb_model.specs.declared.refusal.Refusal.TheVariants.{NoCursor, NoSession, Stopped, TooOld, Waiting}
@@ -48,8 +48,8 @@ use Rattle.rb_model.specs.declared.row.Fetched.{Fetched}
 use Rattle.rb_model.specs.declared.row.Fetched.TheVariants as fetched
 use Rattle.rb_sessions.specs.Kept.{KeptSession, kept_at, named, with_kept, with_last}
 use Rattle.rb_sessions.specs.Kept as table
-use Rattle.rb_views.proofs.Cursors.{named_is}
-use Rattle.rb_views.proofs.Taken.{taken}
+use Rattle.law_sessions.proofs.Cursors.{named_is}
+use Rattle.law_sessions.proofs.Taken.{taken}
 
 behind_of : (blocks first g : ℕ) (last : Option ℕ) → Begins blocks first g last → (k : ℕ) → k % blocks ≡ g → is_after blocks last k ≡ true → IsBehindKey (if g == first then last else None) k
 behind_of blocks first g None begins k home after = cond_both (g == first) None None (λ (o : Option ℕ). IsBehindKey o k) (λ yes. tt) (λ no. tt)
@@ -162,8 +162,8 @@ module _ {S : Type 0} (s : Ghosts S) (laws : Laws s) (h : State) (old : EngineVi
   one : (c : state.Cursor) × (cursor_of h who name ≡ Some c) × IsCursor h goes.xids (env_of h.shape blocks) who (record { name = name; cursor = m }) c
   one = cursor_for goes.xids goes.remembers
 
-  answers : (logged : ℕ) (r : Answer) → next_row h (Some one.0) ≡ r → Reply h logged (machine.Fetch who name) r
-  answers logged r is = Reply.later (machine.name_tests h (machine.Fetch who name)) early refl (answer_by h who name (Some one.0) r one.1 (sym is))
+  answers : (logged : ℕ) (r : Answer) → next_row h (Some one.0) ≡ r → MayAnswer h logged (machine.Fetch who name) r
+  answers logged r is = MayAnswer.later (machine.name_tests h (machine.Fetch who name)) early refl (answer_by h who name (Some one.0) r one.1 (sym is))
 
   -- what the search couldn't read
   pub needs_lost : (fault : CrFault) (scn lost : ℕ) → fault ≡ faults.TooOld scn lost → ((xids : List Xid) → Serves s h xids m old.store → CopiesStand h xids blocks old.memory.copies.kept → CannotRead h xids blocks m fault) → NeedsLost s h old who name scn lost
@@ -223,7 +223,7 @@ module _ {S : Type 0} (s : Ghosts S) (laws : Laws s) (h : State) (old : EngineVi
     env = env_same h.shape blocks (s.blocks new.store) clean.only.segments
 
     -- an answer that leaves the state
-    stays : (answer : Answer) → is_fault answer ≡ false → Reply h (s.lsn old.store) (machine.Fetch who name) answer → After h (machine.Fetch who name) answer h
+    stays : (answer : Answer) → is_fault answer ≡ false → MayAnswer h (s.lsn old.store) (machine.Fetch who name) answer → After h (machine.Fetch who name) answer h
         → Grows h (machine.Fetch who name) answer clean.count → new.memory ≡ with_copies new.memory.copies old.memory → Does s h (machine.Fetch who name) answer old new
     stays answer fine reply after grows memory =
         does_by s h h (machine.Fetch who name) answer old new clean.count st reply after (λ _ s t k a is done. cc) (subst (Knows h) (sym memory) (knows_copies h old.memory new.memory.copies st.knows)) same

@@ -8,8 +8,8 @@ use Rattle.rb_model.specs.NextState.{Ends, Grows, GrowsBy, ReadsBy, RefusedBy}
 use Rattle.rb_model.specs.State.{State, session_own}
 use Rattle.rb_model.specs.declared.refusal.Refusal.{Refusal}
 use Rattle.rb_model.specs.declared.refusal.Refusal.TheVariants as why
-use Rattle.rb_standing.specs.States.{BlocksStand}
-use Rattle.rb_views.proofs.Few.{session_few}
+use Rattle.law_blocks.specs.States.{BlocksStand}
+use Rattle.law_sessions.proofs.Few.{session_few}
 
 module _ (h : State) (xids : List Xid) (blocks : List (List ℕ)) (stand : BlocksStand h xids blocks) where
   own_few : (s : ℕ) → length (session_own h s) ≤ 320

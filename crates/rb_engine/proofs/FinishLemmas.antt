@@ -4,7 +4,7 @@ use Rattle.rb_engine.proofs.CopyLemmas.{copies_committed, copies_same}
 use Rattle.std.proofs.lemmas.Bool.{le-leb, and_from}
 use Rattle.std.proofs.lemmas.List.{length-set}
 use Rattle.std.specs.Result.{is_err}
-use Rattle.rb_attempt.specs.Asks.{header_in}
+use Rattle.rb_write.specs.Asks.{header_in}
 use Rattle.rb_base.specs.Blocks.{after_groups}
 use Rattle.rb_base.specs.Groups.{Patch}
 use Rattle.rb_base.specs.Logs.{Flushes, Laws, LogsBy, more_flushes, no_logs}
@@ -14,12 +14,12 @@ use Rattle.rb_engine.specs.Does.{Does, EngineView, Goes, Keeps, Kept, Knows, Sam
 use Rattle.rb_engine.specs.Finishing.{Commits, Fails}
 use Rattle.rb_engine.proofs.DoesLemmas.{does_by, does_fault, holds_session, knows_on, survives_same}
 use Rattle.rb_engine.proofs.QueueLemmas.{all_asked, holds_queue, knows_freed, survives_queue}
-use Rattle.rb_image.specs.Crash.{Survives}
-use Rattle.rb_image.specs.Holds.{Holds}
-use Rattle.rb_image.specs.Made.{CommitMade, GivesOne}
-use Rattle.rb_image.proofs.CommitHeld.{commit_fault, holds_committed}
-use Rattle.rb_image.proofs.Owners.{OwnedBy, none_owned, owned_by}
-use Rattle.rb_model.specs.Calls.{Call, Commit, Done, HasNoSlot, Numbered, Refused, Reply, early_tests, is_empty, none_applies, session_tests}
+use Rattle.law_crash.specs.Crash.{Survives}
+use Rattle.law_crash.specs.Holds.{Holds}
+use Rattle.law_crash.specs.Made.{CommitMade, GivesOne}
+use Rattle.law_crash.proofs.CommitHeld.{commit_fault, holds_committed}
+use Rattle.law_crash.proofs.Owners.{OwnedBy, none_owned, owned_by}
+use Rattle.rb_model.specs.Calls.{Call, Commit, Done, HasNoSlot, Numbered, Refused, MayAnswer, early_tests, is_empty, none_applies, session_tests}
 use Rattle.rb_model.specs.Change.{Change}
 use Rattle.rb_model.specs.NextState.{After, GrowsBy, committed, ended, freeing, not_present}
 use Rattle.rb_model.specs.Queue.{freed_by, is_queued}
@@ -29,14 +29,14 @@ use Rattle.rb_model.specs.declared.refusal.Refusal.TheVariants.{DiskFault}
 use Rattle.rb_segment.specs.Calls.{Runs}
 use Rattle.rb_sessions.specs.Kept.{KeptSession, kept_at, with_kept}
 use Rattle.rb_sessions.specs.Kept as table
-use Rattle.rb_standing.specs.Standing.{env_of, logged_of, segments_of}
-use Rattle.rb_standing.specs.States.{BlocksStand, lives_of, past_of}
-use Rattle.rb_standing.proofs.BlocksAs.{commit_logged}
-use Rattle.rb_standing.proofs.SegmentRead.{header_is}
-use Rattle.rb_undoengine.proofs.Finishing.{scn_is}
-use Rattle.rb_verdict.specs.Verdict.{IsOwnId}
-use Rattle.rb_views.specs.Views.{Remembers}
-use Rattle.rb_views.proofs.Ended.{committed_remembered}
+use Rattle.law_blocks.specs.Standing.{env_of, logged_of, segments_of}
+use Rattle.law_blocks.specs.States.{BlocksStand, lives_of, past_of}
+use Rattle.law_blocks.proofs.BlocksAs.{commit_logged}
+use Rattle.law_blocks.proofs.SegmentRead.{header_is}
+use Rattle.rb_steps.proofs.Finishing.{scn_is}
+use Rattle.law_write.specs.Verdict.{IsOwnId}
+use Rattle.law_sessions.specs.Views.{Remembers}
+use Rattle.law_sessions.proofs.Ended.{committed_remembered}
 
 -- the header of a segment, read as the steps read it
 pub runs_in : (h : State) (blocks : List (List ℕ)) (x : Xid) → Runs (segments_of h.shape blocks x.seg).header x → Runs (header_in h.shape blocks x.seg) x
@@ -116,7 +116,7 @@ module _ {S : Type 0} (s : Ghosts S) (told : s.tells) (laws : Laws s) (h : State
         let full = some_own (session_own h who) some in
         let more : last_scn now.commits ≡ last_scn h.commits + 1 = let l = length-append h.commits.list (session_own h who ∷ []) in omega (arith, l) in
         does_by s h now (Commit who) (Numbered n) old new 1 st
-        (Reply.later [] (no_early h old.memory who st.knows going there free) refl (rw (full, next) refl))
+        (MayAnswer.later [] (no_early h old.memory who st.knows going there free) refl (rw (full, next) refl))
         (inl (full, (x.seg, x.slot, own_by.owned, refl))) (λ _ s t k a is done. cc)
         (record {
           sixteen = length-set h.sessions _ _ ∙ st.knows.sixteen;
@@ -146,7 +146,7 @@ module _ {S : Type 0} (s : Ghosts S) (told : s.tells) (laws : Laws s) (h : State
 -- A transaction without a table slot ends in memory alone.
 pub does_ended : {S : Type 0} (s : Ghosts S) (laws : Laws s) (h : State) (call : Call) (who : ℕ) (cursors : List Cursor) (old new : EngineView S) → (st : Stands s h old) → (going : h.stopped ≡ false)
     → (1 ≤ who) × (who ≤ 16) → (s.failed old.store ≡ false) → ((now : State) → Keeps h call Done now) → (kept_at old.memory.sessions who).own ≡ None → (kept_at old.memory.sessions who).count ≡ 0 → none_applies (early_tests h call) ≡ true
-    → (HasNoSlot h who → is_empty (session_own h who) ≡ true → Reply h (s.lsn old.store) call Done)
+    → (HasNoSlot h who → is_empty (session_own h who) ≡ true → MayAnswer h (s.lsn old.store) call Done)
     → (HasNoSlot h who → is_empty (session_own h who) ≡ true → After h call Done (freeing (ended h who cursors) who)) → (HasNoSlot h who → is_empty (session_own h who) ≡ true → GrowsBy h call 0)
     → (HasNoSlot h who → session_own h who ≡ [] → (xids : List Xid) → BlocksStand h xids (s.blocks old.store) → Remembers h xids (env_of h.shape (s.blocks old.store)) old.memory.sessions → Remembers (freeing (ended h who cursors) who) xids (env_of h.shape (s.blocks old.store)) new.memory.sessions)
     → map (λ k. k.asked) new.memory.sessions ≡ map (λ k. k.asked) old.memory.sessions → new.memory.waits ≡ freed_by who old.memory.waits

@@ -1,8 +1,8 @@
 -- Why a call is too old, what the test of a serializable write finds, and what the write does then.
 use Rattle.std.proofs.Common.{◌≡◌, ◌≢◌, ◌≤◌, ◌++◌, ◌&&◌, ℕ, Bool, true, false, not, nat_le, List, [], Option, Some, None, Result, Ok, Err, IfErr, IfOk, OnOk, refl, sym, ◌∙◌, ap, subst, arith}
 use Rattle.std.proofs.lemmas.Bool.{and_from, le-leb}
-use Rattle.rb_attempt.specs.declared.ask.AttemptFault.{AttemptFault}
-use Rattle.rb_attempt.specs.declared.ask.AttemptFault.TheVariants as attempts
+use Rattle.rb_write.specs.declared.ask.AttemptFault.{AttemptFault}
+use Rattle.rb_write.specs.declared.ask.AttemptFault.TheVariants as attempts
 use Rattle.rb_base.specs.Blocks.{home_block}
 use Rattle.rb_base.specs.Logs.{Laws, Logs}
 use Rattle.rb_base.specs.declared.ids.Xid.{Xid}
@@ -18,7 +18,7 @@ use Rattle.rb_engine.specs.Lateness.{IsKeyWorn, IsRefusedLate, IsTimely, IsWrite
 use Rattle.rb_engine.proofs.DoesLemmas.{does_fault, does_loaded, fault_survives}
 use Rattle.rb_engine.proofs.WriteLemmas.{answered}
 use Rattle.rb_model.specs.Book.{book_at}
-use Rattle.rb_model.specs.Calls.{Action, Answer, Call, Done, ReadsAt, Refused, Reply, Write, WritesIn, early_tests, first_of, is_disk_fault, none_applies, refused_by, serial_tests, waited, write_tests}
+use Rattle.rb_model.specs.Calls.{Action, Answer, Call, Done, ReadsAt, Refused, MayAnswer, Write, WritesIn, early_tests, first_of, is_disk_fault, none_applies, refused_by, serial_tests, waited, write_tests}
 use Rattle.rb_model.specs.Late.{late}
 use Rattle.rb_model.specs.Queue.{Waiter}
 use Rattle.rb_model.specs.Rows.{last_scn}
@@ -29,26 +29,26 @@ use Rattle.rb_model.specs.declared.mode.Isolation.TheVariants as isolation
 use Rattle.rb_model.specs.declared.refusal.Refusal.{Refusal}
 use Rattle.rb_model.specs.declared.refusal.Refusal.TheVariants as refusals
 use Rattle.rb_model.specs.declared.wrote.Wrote.{Wrote}
-use Rattle.rb_rebuild.specs.Late.{late_above}
-use Rattle.rb_rebuild.specs.Reading.{History}
+use Rattle.law_read.specs.Late.{late_above}
+use Rattle.law_read.specs.Reading.{History}
 use Rattle.rb_sessions.specs.Kept.{KeptSession, kept_at}
-use Rattle.rb_standing.specs.Standing.{env_of}
-use Rattle.rb_standing.specs.States.{BlocksStand}
-use Rattle.rb_undoengine.proofs.Firsts.{first_serial, row_tests}
-use Rattle.rb_undoengine.specs.Steps.{NotLate, NotOthers, refusal_of}
-use Rattle.rb_views.specs.Views.{Remembers, history}
-use Rattle.rb_views.proofs.Late as views
-use Rattle.rb_views.proofs.Readable.{write_read}
-use Rattle.rb_views.proofs.Lost.{lost_is}
+use Rattle.law_blocks.specs.Standing.{env_of}
+use Rattle.law_blocks.specs.States.{BlocksStand}
+use Rattle.rb_steps.proofs.Firsts.{first_serial, row_tests}
+use Rattle.rb_steps.specs.Steps.{NotLate, NotOthers, refusal_of}
+use Rattle.law_sessions.specs.Views.{Remembers, history}
+use Rattle.law_sessions.proofs.Late as views
+use Rattle.law_sessions.proofs.Readable.{write_read}
+use Rattle.law_sessions.proofs.Lost.{lost_is}
 
 -- A call that reads at a snapshot may be too old where a segment lost something above it.
 pub old_reply : (h : State) (xids : List Xid) (blocks : List (List ℕ)) → BlocksStand h xids blocks → (logged : ℕ) (call : Call) (why : ℕ → Type 0) (n scn lost : ℕ) → none_applies (early_tests h call) ≡ true → ReadsAt h call n
-    → Because (env_of h.shape blocks) n why (faults.TooOld scn lost) → Reply h logged call (Refused (refusals.TooOld scn lost))
+    → Because (env_of h.shape blocks) n why (faults.TooOld scn lost) → MayAnswer h logged call (Refused (refusals.TooOld scn lost))
 old_reply h xids blocks stand logged call why n scn lost early reads because =
     let seg = because.2.0 in
     let book = lost_is h xids blocks seg n stand (let b = because.1 in let d = because.2.1 in omega (arith, b, d)) in
     let given_up : (book_at h.books seg).lost ≡ lost = book.1 ∙ sym because.2.1 in
-    Reply.old early (record {
+    MayAnswer.old early (record {
       snapshot = n;
       reads = reads;
       seg = seg;

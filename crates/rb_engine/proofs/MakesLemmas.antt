@@ -7,8 +7,8 @@ use Rattle.rb_engine.specs.Does.{EngineView, Goes, Stands}
 use Rattle.rb_engine.specs.Finishing.{Commits, PutsAllBack, PutsBack}
 use Rattle.rb_engine.specs.Makes.{MadeBy, MadeReading, MadeRefused, Makes}
 use Rattle.rb_engine.proofs.FinishLemmas.{goes, none_own, own_by, some_own}
-use Rattle.rb_image.proofs.Owners.{OwnedBy, none_owned}
-use Rattle.rb_image.specs.Made.{BackOver, GivesOne, WriteMade}
+use Rattle.law_crash.proofs.Owners.{OwnedBy, none_owned}
+use Rattle.law_crash.specs.Made.{BackOver, GivesOne, WriteMade}
 use Rattle.rb_model.specs.Answers.{marks_answer, plain_answer, write_answer}
 use Rattle.rb_model.specs.Calls.{Action, Answer, Call, Commit, Done, HasNoSlot, Marks, Numbered, Rollback, RollbackTo, Write}
 use Rattle.rb_model.specs.State.{Savepoint, State, savepoint_of, session_own}
@@ -18,8 +18,8 @@ use Rattle.rb_model.specs.declared.refusal.Refusal.TheVariants.{TooOld}
 use Rattle.rb_model.specs.declared.wrote.Wrote.{Wrote}
 use Rattle.rb_model.specs.declared.wrote.Wrote.TheVariants as wrote
 use Rattle.rb_sessions.specs.Kept.{kept_at}
-use Rattle.rb_standing.specs.Standing.{env_of}
-use Rattle.rb_verdict.specs.Verdict.{IsOwnId}
+use Rattle.law_blocks.specs.Standing.{env_of}
+use Rattle.law_write.specs.Verdict.{IsOwnId}
 
 -- A call that changed no block.
 module _ (h : State) (call : Call) (lsn : ℕ) (before now : List (List ℕ)) (same : now ≡ before) where

@@ -8,7 +8,7 @@ use Rattle.rb_model.specs.Calls.{is_empty, is_none_set, is_unbegun}
 use Rattle.rb_model.specs.Change.{Change}
 use Rattle.rb_model.specs.State as machine
 use Rattle.rb_model.specs.State.{Savepoint, State}
-use Rattle.rb_sessions.specs.declared.entry.Session.{Session}
+use Rattle.rb_sessions.specs.declared.row.Session.{Session}
 
 no_change : (own : List Change) → (length own == 0) ≡ is_empty own
 no_change [] = refl

@@ -3,8 +3,8 @@
 use Rattle.std.proofs.Common.{◌≡◌, ◌≢◌, ◌<◌, ◌≤◌, ◌+◌, ◌-◌, ◌^◌, ℕ, zero, suc, Bool, true, false, not, List, [], length, take, get_or, replicate, Some, None, Result, Ok, Err, IfErr, IsErrOf, refl, sym, ◌∙◌, ap, subst, arith, map}
 use Rattle.std.specs.Result.{IsErrAnd}
 use Rattle.rb_copies.specs.Copies.{KeptHomes}
-use Rattle.rb_outliving.specs.Copies.{CopiesStand}
-use Rattle.rb_outliving.proofs.Outliving.{none_stand}
+use Rattle.law_copies.specs.Copies.{CopiesStand}
+use Rattle.law_copies.proofs.Outliving.{none_stand}
 use Rattle.std.proofs.Math.Seq.{take-nil}
 use Rattle.std.proofs.lemmas.List.{take_all}
 use Rattle.std.proofs.lemmas.List.FromFn.{get_or-map-range_with_len}
@@ -23,28 +23,28 @@ use Rattle.rb_engine.specs.Does.{InTables, IsInStep, Kept, owed_kept}
 use Rattle.rb_model.specs.Queue.{is_queued}
 use Rattle.rb_waits.specs.Room.{AreQueuedOnce}
 use Rattle.rb_engine.specs.Opened.{Opened, OpensTo, StaysOpen}
-use Rattle.rb_image.specs.Crash.{Restarts}
-use Rattle.rb_image.specs.Holds.{Holds}
-use Rattle.rb_image.specs.Images.{HasState}
-use Rattle.rb_image.proofs.Steps.{OpensWith, Property, keeps_on, leaves_on, restarts}
+use Rattle.law_crash.specs.Crash.{Restarts}
+use Rattle.law_crash.specs.Holds.{Holds}
+use Rattle.law_crash.specs.Images.{HasState}
+use Rattle.law_crash.proofs.Steps.{OpensWith, Property, keeps_on, leaves_on, restarts}
 use Rattle.rb_model.specs.Book.{Book, book_at, fresh_book}
 use Rattle.rb_model.specs.Calls.{HasNoSlot}
 use Rattle.rb_model.specs.Change.{Change}
 use Rattle.rb_model.specs.Rows.{TableRow, last_scn, over, rows_at}
 use Rattle.rb_model.specs.State.{State, opened, owner_at}
-use Rattle.rb_opening.specs.Opens.{books_of}
-use Rattle.rb_opening.proofs.Opened.{books_same, unowned}
-use Rattle.rb_opening.proofs.Rolled.{none_sound, opened_by}
+use Rattle.rb_recovery.specs.Opens.{books_of}
+use Rattle.rb_recovery.proofs.Opened.{books_same, unowned}
+use Rattle.rb_recovery.proofs.Rolled.{none_sound, opened_by}
 use Rattle.rb_restart.specs.Rollback.{BackBy, IsPartlyBack, RolledBack, StaySound, found_book}
 use Rattle.rb_segment.specs.Header.{segment_of}
 use Rattle.rb_segment.specs.Segments.{commit_scn}
 use Rattle.rb_sessions.specs.Kept.{KeptSession, fresh, kept_at}
 use Rattle.rb_sessions.specs.declared.sessions.TheConstants.{SESSIONS}
-use Rattle.rb_standing.specs.Standing.{SoundAs, env_of, logged_of, segments_of}
-use Rattle.rb_standing.specs.States.{BlocksStand}
-use Rattle.rb_standing.proofs.SegmentRead.{header_is}
-use Rattle.rb_views.specs.Views.{Remembers}
-use Rattle.rb_views.proofs.Opened.{first_remembered}
+use Rattle.law_blocks.specs.Standing.{SoundAs, env_of, logged_of, segments_of}
+use Rattle.law_blocks.specs.States.{BlocksStand}
+use Rattle.law_blocks.proofs.SegmentRead.{header_is}
+use Rattle.law_sessions.specs.Views.{Remembers}
+use Rattle.law_sessions.proofs.Opened.{first_remembered}
 
 -- what holds of the store behind loads holds of the one before them
 pub moved : {S : Type 0} (s : Ghosts S) (old mid : S) (F : Shape → ℕ → List (List ℕ) → Type 0) → Logs s old mid [] true → s.tells → F (s.shape_of mid) (s.lsn mid) (s.blocks mid) → F (s.shape_of old) (s.lsn old) (s.blocks old)

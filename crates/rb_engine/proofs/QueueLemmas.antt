@@ -8,10 +8,10 @@ use Rattle.rb_base.specs.Moments.{weaker}
 use Rattle.rb_base.specs.declared.ids.Xid.{Xid}
 use Rattle.rb_base.specs.declared.store.Store.{Ghosts}
 use Rattle.rb_engine.specs.Does.{EngineView, Goes, IsQueue, Kept, KnowsQueue}
-use Rattle.rb_image.specs.Between.{at_end, one_commit, one_write, reached, whole}
-use Rattle.rb_image.specs.Crash.{AtEnd, OnTheWay, RestartsAt, Survives}
-use Rattle.rb_image.specs.Holds.{Holds}
-use Rattle.rb_image.specs.Images.{HasState}
+use Rattle.law_crash.specs.Between.{at_end, one_commit, one_write, reached, whole}
+use Rattle.law_crash.specs.Crash.{AtEnd, OnTheWay, RestartsAt, Survives}
+use Rattle.law_crash.specs.Holds.{Holds}
+use Rattle.law_crash.specs.Images.{HasState}
 use Rattle.rb_model.specs.Book.{Book, Owner}
 use Rattle.rb_model.specs.Calls.{Call}
 use Rattle.rb_model.specs.Change.{Asked}
@@ -19,13 +19,13 @@ use Rattle.rb_model.specs.Queue.{Waiter, freed_by, is_queued, left_by, waiting}
 use Rattle.rb_model.specs.Rows.{last_scn}
 use Rattle.rb_model.specs.State.{State, asked_of, owner_at}
 use Rattle.rb_sessions.specs.Kept.{KeptSession, fresh, holding, kept_at, with_kept}
-use Rattle.rb_standing.specs.Standing.{Standing, env_of}
-use Rattle.rb_standing.specs.States.{BlocksStand, lives_of, owned, past_of}
-use Rattle.rb_views.proofs.Queues.{queue_remembered}
+use Rattle.law_blocks.specs.Standing.{Standing, env_of}
+use Rattle.law_blocks.specs.States.{BlocksStand, lives_of, owned, past_of}
+use Rattle.law_sessions.proofs.Queues.{queue_remembered}
 use Rattle.rb_waits.proofs.Turns.{free_keeps, freed_stay, leave_keeps, left_is_out, others_stay, wait_adds, wait_keeps}
 use Rattle.rb_waits.specs.Room.{AreQueuedOnce}
-use Rattle.rb_walk.specs.Walk as walk
-use Rattle.rb_walk.specs.Walk.{Env}
+use Rattle.law_home.specs.Walk as walk
+use Rattle.law_home.specs.Walk.{Env}
 
 -- The writes that sessions wait with, over a step of one session of the table.
 
@@ -162,7 +162,7 @@ module _ (h : State) (queue : List Waiter) (asked : List (Option Asked)) where
     goes_queue e memory same copies goes = record {
       xids = goes.xids;
       holds = holds_queue goes.xids e.store goes.holds;
-      remembers = subst (Rattle.rb_views.specs.Views.Remembers Next goes.xids (env_of h.shape (s.blocks e.store))) (sym same) (queue_remembered h queue asked goes.xids (env_of h.shape (s.blocks e.store)) e.memory.sessions goes.remembers);
+      remembers = subst (Rattle.law_sessions.specs.Views.Remembers Next goes.xids (env_of h.shape (s.blocks e.store))) (sym same) (queue_remembered h queue asked goes.xids (env_of h.shape (s.blocks e.store)) e.memory.sessions goes.remembers);
       copies = copies_same h Next goes.xids (s.blocks e.store) (s.blocks e.store) e.memory.copies memory.copies refl refl refl copies goes.copies;
     }
 

@@ -13,9 +13,9 @@ use Rattle.rb_model.specs.Change.{Change}
 use Rattle.rb_model.specs.State.{State}
 use Rattle.rb_model.proofs.BookLemmas.{drops_one, reuses_one, taken_sound}
 use Rattle.rb_segment.specs.Books.{IsBook}
-use Rattle.rb_standing.specs.Standing.{segments_of}
-use Rattle.rb_standing.specs.States.{BlocksStand}
-use Rattle.rb_verdict.proofs.Told as told
+use Rattle.law_blocks.specs.Standing.{segments_of}
+use Rattle.law_blocks.specs.States.{BlocksStand}
+use Rattle.law_write.proofs.Told as told
 
 -- a full book gives nothing up at a record
 full_keeps : (i : ℕ) (b : Book) → is_full b ≡ true → (marked i b).lost ≡ b.lost

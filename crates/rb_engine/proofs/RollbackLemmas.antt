@@ -1,14 +1,14 @@
 -- What a rollback leaves, change by change, from the groups of its steps.
 use Rattle.std.proofs.Common.{◌≡◌, ◌<◌, ◌≤◌, ◌+◌, ◌-◌, ◌*◌, ◌^◌, ◌∷◌, ◌++◌, inl, inr, ⊎_elim, ℕ, zero, suc, Bool, true, false, not, List, [], length, length-append, map, set, take, Option, Some, None, Result, Ok, Err, OnOk, refl, sym, ◌∙◌, ap, subst, arith}
-use Rattle.rb_outliving.proofs.Ages.{back_ages, end_ages}
-use Rattle.rb_aging.proofs.Aging as aging
-use Rattle.rb_aging.specs.Kept.{SegmentsAge}
+use Rattle.law_copies.proofs.Ages.{back_ages, end_ages}
+use Rattle.law_aging.proofs.Aging as aging
+use Rattle.law_aging.specs.Kept.{SegmentsAge}
 use Rattle.rb_engine.proofs.CopyLemmas.{copies_aged}
 use Rattle.std.proofs.Math.Nat.{div-add-mod}
 use Rattle.std.proofs.lemmas.Bool.{cases_lt}
 use Rattle.std.proofs.lemmas.List.{length-set, set-set, take_all}
 use Rattle.std.specs.Result.{is_err}
-use Rattle.rb_attempt.specs.Asks.{header_in}
+use Rattle.rb_write.specs.Asks.{header_in}
 use Rattle.rb_base.specs.Blocks.{after_groups}
 use Rattle.rb_base.specs.Counts.{IsCounted}
 use Rattle.rb_base.specs.Groups.{Patch}
@@ -20,18 +20,18 @@ use Rattle.rb_engine.specs.Does.{Does, EngineView, Goes, SameStore, Stands}
 use Rattle.rb_engine.specs.Finishing.{Fails, PutsAllBack, PutsBack, SameIds}
 use Rattle.rb_engine.proofs.DoesLemmas.{does_by, holds_session, knows_on, survives_same, with_session}
 use Rattle.rb_engine.proofs.FinishLemmas.{goes, no_early, none_own, own_by, own_id, runs_in}
-use Rattle.rb_image.specs.Between.{MarksGrow}
-use Rattle.rb_image.specs.Crash.{Survives}
-use Rattle.rb_image.specs.Holds.{Holds}
-use Rattle.rb_image.specs.Images.{HasState}
-use Rattle.rb_image.specs.Made.{BackMade, BackOver, EndMade, GivesOne, KeepsIds}
-use Rattle.rb_image.proofs.Crashes.{grow_same, has_later, has_state, survives_on}
-use Rattle.rb_image.proofs.Marks.{shrinks_left}
-use Rattle.rb_image.proofs.Owners.{OwnedBy, owned_by, same_owners}
-use Rattle.rb_image.proofs.Steps.{read_has, survives_going}
-use Rattle.rb_image.proofs.StepsHeld.{few_each, holds_back, holds_ended}
+use Rattle.law_crash.specs.Between.{MarksGrow}
+use Rattle.law_crash.specs.Crash.{Survives}
+use Rattle.law_crash.specs.Holds.{Holds}
+use Rattle.law_crash.specs.Images.{HasState}
+use Rattle.law_crash.specs.Made.{BackMade, BackOver, EndMade, GivesOne, KeepsIds}
+use Rattle.law_crash.proofs.Crashes.{grow_same, has_later, has_state, survives_on}
+use Rattle.law_crash.proofs.Marks.{shrinks_left}
+use Rattle.law_crash.proofs.Owners.{OwnedBy, owned_by, same_owners}
+use Rattle.law_crash.proofs.Steps.{read_has, survives_going}
+use Rattle.law_crash.proofs.StepsHeld.{few_each, holds_back, holds_ended}
 use Rattle.rb_model.specs.Book.{Book}
-use Rattle.rb_model.specs.Calls.{Call, Commit, Done, Owned, Reply, Rollback, RollbackTo, is_empty, name_tests}
+use Rattle.rb_model.specs.Calls.{Call, Commit, Done, Owned, MayAnswer, Rollback, RollbackTo, is_empty, name_tests}
 use Rattle.rb_model.specs.Change.{Change}
 use Rattle.rb_engine.proofs.QueueLemmas.{all_asked, holds_queue, knows_freed, knows_same, survives_queue}
 use Rattle.rb_model.specs.Queue.{freed_by, is_queued}
@@ -41,17 +41,17 @@ use Rattle.rb_model.specs.State.{Savepoint, Session, State, no_session, savepoin
 use Rattle.rb_segment.specs.Calls.{Runs}
 use Rattle.rb_sessions.specs.Kept.{KeptSession, kept_at, rolled_back, with_kept}
 use Rattle.rb_sessions.specs.Kept.{committed as kept_committed, rolled_to as kept_rolled_to}
-use Rattle.rb_standing.specs.Groups.{IsPutBack, last_record}
-use Rattle.rb_standing.specs.NextStates.{with_own}
+use Rattle.law_blocks.specs.Groups.{IsPutBack, last_record}
+use Rattle.law_blocks.specs.NextStates.{with_own}
 use Rattle.rb_undoblock.specs.declared.record.UndoRecord.{UndoRecord}
-use Rattle.rb_standing.specs.Standing.{env_of, logged_of, segments_of}
-use Rattle.rb_standing.specs.States.{BlocksStand, Owns}
-use Rattle.rb_undoengine.proofs.LeftOwn.{last_of, own_again, own_all, own_left}
-use Rattle.rb_verdict.specs.Verdict.{IsOwnId}
-use Rattle.rb_views.specs.Views.{Remembers}
-use Rattle.rb_views.proofs.Ended.{back_remembered, end_remembered}
-use Rattle.rb_views.proofs.Savepoints.{cut_remembered}
-use Rattle.rb_walk.specs.Walk.{Env, own}
+use Rattle.law_blocks.specs.Standing.{env_of, logged_of, segments_of}
+use Rattle.law_blocks.specs.States.{BlocksStand, Owns}
+use Rattle.rb_steps.proofs.LeftOwn.{last_of, own_again, own_all, own_left}
+use Rattle.law_write.specs.Verdict.{IsOwnId}
+use Rattle.law_sessions.specs.Views.{Remembers}
+use Rattle.law_sessions.proofs.Ended.{back_remembered, end_remembered}
+use Rattle.law_sessions.proofs.Savepoints.{cut_remembered}
+use Rattle.law_home.specs.Walk.{Env, own}
 
 -- An id stays its session's over a step that changes no owner.
 pub id_kept : (h h2 : State) (env env2 : Env) (who : ℕ) (own : Option Xid) → h2.books ≡ h.books → KeepsIds h env env2 → IsOwnId h env who own → IsOwnId h2 env2 who own
@@ -360,7 +360,7 @@ module _ {S : Type 0} (s : Ghosts S) (told : s.tells) (laws : Laws s) (h : State
         let now = freeing bare who in
         let after : EndsAs h who cursors now = inl (x.seg, x.slot, id.owned, refl) in
         let all = done cursors in
-        does_by s h now (Rollback who) Done old new (length (session_own h who) + 1) st (Reply.later [] (no_early h old.memory who st.knows going there free) refl refl) after (λ _ s t k a is done. cc)
+        does_by s h now (Rollback who) Done old new (length (session_own h who) + 1) st (MayAnswer.later [] (no_early h old.memory who st.knows going there free) refl refl) after (λ _ s t k a is done. cc)
         (knows_on h now old.memory new.memory st.knows (length-set h.sessions _ _) refl refl stopped scn (λ on. knows_freed h now old.memory new.memory who refl refl waits (ap (λ (l : List KeptSession). map (λ k. k.asked) l) table_is ∙ all_asked old.memory.sessions (who - 1) (rolled_back (kept_at old.memory.sessions who)) refl) (st.knows.queue on))) same
         (λ _. (
           inl (x.seg, x.slot, id.owned, refl),
@@ -385,7 +385,7 @@ module _ {S : Type 0} (s : Ghosts S) (told : s.tells) (laws : Laws s) (h : State
         let after : EndsAs h who cursors now = inl (x.seg, x.slot, id.owned, refl) in
         let nothing : is_empty (session_own h who) ≡ true = none_own (session_own h who) (ap (λ (l : List Change). length l) none) in
         let all = done cursors in
-        does_by s h now (Commit who) Done old new 1 st (Reply.later [] (no_early h old.memory who st.knows going there free) refl (rw nothing refl)) (inr (nothing, after)) (λ _ s t k a is done. cc)
+        does_by s h now (Commit who) Done old new 1 st (MayAnswer.later [] (no_early h old.memory who st.knows going there free) refl (rw nothing refl)) (inr (nothing, after)) (λ _ s t k a is done. cc)
         (knows_on h now old.memory new.memory st.knows (length-set h.sessions _ _) refl refl stopped scn (λ on. knows_freed h now old.memory new.memory who refl refl waits (ap (λ (l : List KeptSession). map (λ k. k.asked) l) table_is ∙ all_asked old.memory.sessions (who - 1) (kept_committed (kept_at old.memory.sessions who)) refl) (st.knows.queue on))) same
         (λ _. (
           inr (nothing, inl (x.seg, x.slot, id.owned, refl)),
@@ -413,7 +413,7 @@ module _ {S : Type 0} (s : Ghosts S) (told : s.tells) (laws : Laws s) (h : State
         let again : with_session m who session ≡ now = ap (λ (z : List Session). let n : State = record h { sessions = z } in n) (set-set h.sessions (who - 1) (with_changes h who (take p.kept mine)) session) in
         let cut : Holds s (with_session m who session) held.xids new.store = holds_session s told laws m who held.xids new.store session in_m (sym (own_left h who there.0 high (take p.kept mine))) done.0 in
         let shape_new : s.shape_of new.store ≡ h.shape = same.shape ∙ st.shape in
-        does_by s h now (RollbackTo who name) Done old new (length mine - p.kept) st (Reply.later (name_tests h (RollbackTo who name)) (no_early h old.memory who st.knows going there free) refl (rw named refl)) (p, named, refl) (λ _ s t k a is done. cc)
+        does_by s h now (RollbackTo who name) Done old new (length mine - p.kept) st (MayAnswer.later (name_tests h (RollbackTo who name)) (no_early h old.memory who st.knows going there free) refl (rw named refl)) (p, named, refl) (λ _ s t k a is done. cc)
         (knows_on h now old.memory new.memory st.knows (length-set h.sessions _ _) refl refl stopped scn (λ on. knows_same h now old.memory new.memory refl refl waits (ap (λ (l : List KeptSession). map (λ k. k.asked) l) table_is ∙ all_asked old.memory.sessions (who - 1) (kept_rolled_to name p.kept (kept_at old.memory.sessions who)) refl) (st.knows.queue on))) same
         (λ _. (
           (p, named, refl),

@@ -9,17 +9,17 @@ use Rattle.rb_model.specs.Book.{Owner}
 use Rattle.rb_model.specs.Change as model
 use Rattle.rb_model.specs.Change.{Kind, Put, Gone, Held}
 use Rattle.rb_model.specs.State.{State, owner_at, session_own}
-use Rattle.rb_rebuild.specs.Keeping.{behind_mine, is_first}
-use Rattle.rb_rebuild.specs.Reading.{flat, rows_at}
+use Rattle.law_read.specs.Keeping.{behind_mine, is_first}
+use Rattle.law_read.specs.Reading.{flat, rows_at}
 use Rattle.rb_sessions.specs.declared.cursor.Cursor.{Cursor}
-use Rattle.rb_standing.specs.Standing.{env_of}
-use Rattle.rb_standing.specs.States.{commits_from, lives_of, newest_first, owned, past_of, walk_change}
-use Rattle.rb_standing.specs.Values.{rows_here}
-use Rattle.rb_verdict.proofs.Sites.{home_mod}
-use Rattle.rb_views.specs.Laws.{rows_seen}
-use Rattle.rb_views.specs.Views.{home_in, reader_slot}
-use Rattle.rb_walk.specs.Homes.{here, narrow}
-use Rattle.rb_walk.specs.Walk.{Change, Commit, Env, Rows, behind, changed, own, rows_of}
+use Rattle.law_blocks.specs.Standing.{env_of}
+use Rattle.law_blocks.specs.States.{commits_from, lives_of, newest_first, owned, past_of, walk_change}
+use Rattle.law_blocks.specs.Values.{rows_here}
+use Rattle.law_write.proofs.Sites.{home_mod}
+use Rattle.law_sessions.specs.Laws.{rows_seen}
+use Rattle.law_sessions.specs.Views.{home_in, reader_slot}
+use Rattle.law_home.specs.Homes.{here, narrow}
+use Rattle.law_home.specs.Walk.{Change, Commit, Env, Rows, behind, changed, own, rows_of}
 
 -- each change is of the home of its key
 abbrev Homed : ℕ → List Change → Type 0

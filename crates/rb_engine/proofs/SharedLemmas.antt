@@ -9,16 +9,16 @@ use Rattle.rb_cr.specs.declared.scratch.Snapshot.{Snapshot}
 use Rattle.rb_engine.specs.Scanning.{IsReader}
 use Rattle.rb_engine.proofs.FetchLemmas.{home_read}
 use Rattle.rb_model.specs.State.{State}
-use Rattle.rb_outliving.specs.Copies.{CopiesStand, TellsOf}
-use Rattle.rb_outliving.proofs.Outliving.{build_keeps, stands_for}
-use Rattle.rb_rebuild.specs.Reading.{History}
+use Rattle.law_copies.specs.Copies.{CopiesStand, TellsOf}
+use Rattle.law_copies.proofs.Outliving.{build_keeps, stands_for}
+use Rattle.law_read.specs.Reading.{History}
 use Rattle.rb_sessions.specs.declared.cursor.Cursor.{Cursor}
-use Rattle.rb_standing.specs.States.{past_of}
-use Rattle.rb_standing.proofs.MachineDone.{last_commits}
-use Rattle.rb_views.specs.Views.{history, home_in}
-use Rattle.rb_views.proofs.Telling.{told}
-use Rattle.rb_walk.specs.Homes.{narrow}
-use Rattle.rb_walk.specs.Walk.{Commit, last}
+use Rattle.law_blocks.specs.States.{past_of}
+use Rattle.law_blocks.proofs.MachineDone.{last_commits}
+use Rattle.law_sessions.specs.Views.{history, home_in}
+use Rattle.law_sessions.proofs.Telling.{told}
+use Rattle.law_home.specs.Homes.{narrow}
+use Rattle.law_home.specs.Walk.{Commit, last}
 
 last_narrow : (base b : ℕ) (list : List Commit) → last base (map (narrow b) list) ≡ last base list
 last_narrow base b [] = refl

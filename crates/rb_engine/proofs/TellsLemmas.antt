@@ -7,8 +7,8 @@ use Rattle.rb_base.specs.declared.shape.Shape.{Shape}
 use Rattle.rb_base.specs.declared.store.Store.{Ghosts}
 use Rattle.rb_engine.specs.Cleaning.{CleansRead, HasLooked}
 use Rattle.rb_engine.specs.Does.{EngineView}
-use Rattle.rb_image.proofs.Tells.{tells_cleaned, tells_same}
-use Rattle.rb_image.specs.Made.{GivesOne, TellsLooks, WriteMade}
+use Rattle.law_crash.proofs.Tells.{tells_cleaned, tells_same}
+use Rattle.law_crash.specs.Made.{GivesOne, TellsLooks, WriteMade}
 use Rattle.rb_model.specs.Calls.{Action, is_disk_fault}
 use Rattle.rb_model.specs.State.{State}
 use Rattle.rb_model.specs.declared.refusal.Refusal.{Refusal}

@@ -7,7 +7,7 @@ use Rattle.rb_engine.specs.Does.{Does, EngineView, IsQueue, Kept, KnowsQueue, St
 use Rattle.rb_engine.proofs.DoesLemmas.{does_by, does_refused_late, survives_same}
 use Rattle.rb_engine.proofs.QueueLemmas.{asked_is, goes_queue, survives_queue}
 use Rattle.rb_model.specs.Calls as machine
-use Rattle.rb_model.specs.Calls.{Answer, Call, Reply, early_tests, name_tests, none_applies, number_tests}
+use Rattle.rb_model.specs.Calls.{Answer, Call, MayAnswer, early_tests, name_tests, none_applies, number_tests}
 use Rattle.rb_model.specs.NextState.{unqueued}
 use Rattle.rb_model.specs.Queue.{is_queued, left_by}
 use Rattle.rb_model.specs.State.{State, asked_of}
@@ -47,7 +47,7 @@ module _ {S : Type 0} (s : Ghosts S) (h : State) (who : ℕ) (kept now : Kept) (
       let logs = no_logs s store runs in
       let goes = st.goes going in
       does_by s h (unqueued h who) (machine.Cancel who) machine.Done (record { memory = kept; store = store }) (record { memory = now; store = store }) 0 st
-      (Reply.later (name_tests h (machine.Cancel who)) early refl (rw queued refl)) refl (λ _ s t k a is done. cc)
+      (MayAnswer.later (name_tests h (machine.Cancel who)) early refl (rw queued refl)) refl (λ _ s t k a is done. cc)
       stands_left.knows (record { shape = refl; slots = refl })
       (λ _. (refl, omega arith, stands_left.goes going))
       (λ fault _ keeps. survives_queue h (left_by who h.queue) h.asked s (s.slots store) fault h store store (survives_same s told laws h h goes.xids store store true st.shape refl refl refl goes.holds logs keeps))
@@ -72,7 +72,7 @@ pub not_waiting : {S : Type 0} (s : Ghosts S) (laws : Laws s) (h : State) (who :
     → none_applies (number_tests h who) ≡ true → is_queued who old.memory.waits ≡ false → Does s h (machine.Cancel who) (machine.Refused NotWaiting) old old
 not_waiting s laws h who old st runs going early waits =
     let out : is_queued who h.queue ≡ false = ap (is_queued who) (sym (st.knows.queue going).waits) ∙ waits in
-    does_refused_late s laws h (machine.Cancel who) NotWaiting old st runs (Reply.later (name_tests h (machine.Cancel who)) early refl (rw out refl)) (λ clash. cc)
+    does_refused_late s laws h (machine.Cancel who) NotWaiting old st runs (MayAnswer.later (name_tests h (machine.Cancel who)) early refl (rw out refl)) (λ clash. cc)
 
 -- what the table has of the session that is ready is what the state has
 pub asked_held : (h : State) (kept : Kept) → KnowsQueue h kept → (who : ℕ) (held : Option Pending) (p : Pending) → option_map asked_of_pending held ≡ (kept_at kept.sessions who).asked → held ≡ Some p → asked_of h who ≡ Some (asked_of_pending p)

@@ -3,11 +3,11 @@ use Rattle.std.proofs.Common.{◌≡◌, ◌≢◌, ◌≤◌, ◌+◌, ◌/◌,
 use Rattle.rb_engine.proofs.CopyLemmas.{copies_same, copies_written}
 use Rattle.std.proofs.lemmas.List.{length-set}
 use Rattle.std.proofs.lemmas.Bool.Decides.{nat_tests}
-use Rattle.rb_attempt.specs.Asks.{AreYoung}
-use Rattle.rb_attempt.specs.Holding.{holder_in}
-use Rattle.rb_attempt.specs.Refusals.{has_failed}
-use Rattle.rb_attempt.specs.declared.ask.AttemptFault.{AttemptFault}
-use Rattle.rb_attempt.specs.declared.ask.AttemptFault.TheVariants as faults
+use Rattle.rb_write.specs.Asks.{AreYoung}
+use Rattle.rb_write.specs.Holding.{holder_in}
+use Rattle.rb_write.specs.Refusals.{has_failed}
+use Rattle.rb_write.specs.declared.ask.AttemptFault.{AttemptFault}
+use Rattle.rb_write.specs.declared.ask.AttemptFault.TheVariants as faults
 use Rattle.rb_base.specs.Groups.{Patch}
 use Rattle.rb_base.specs.Logs.{Laws, Logs, group_of}
 use Rattle.rb_base.specs.declared.ids.Xid.{Xid}
@@ -20,12 +20,12 @@ use Rattle.rb_engine.proofs.DoesLemmas.{does_by, does_fault, does_loaded, goes_l
 use Rattle.rb_engine.proofs.QueueLemmas.{all_asked, holds_queue, knows_same, one_asked, queue_waiting, survives_queue}
 use Rattle.rb_engine.proofs.StepLemmas.{few_less, fit_at, fit_held, in_step_moved, in_step_same}
 use Rattle.rb_engine.proofs.RetainsLemmas.{retains}
-use Rattle.rb_image.proofs.Crashes.{survives_on}
-use Rattle.rb_image.proofs.Owners.{OwnedBy, owned_by}
-use Rattle.rb_image.proofs.StepsHeld.{holds_written, write_fault}
-use Rattle.rb_image.specs.Crash.{Survives}
-use Rattle.rb_image.specs.Made.{GivesOne, WriteMade}
-use Rattle.rb_model.specs.Calls.{Action, Answer, Call, Done, Refused, Reply, Waits, Write, early_tests, failed_in, first_of, is_disk_fault, none_applies, serial_tests, waited, write_tests, WritesIn}
+use Rattle.law_crash.proofs.Crashes.{survives_on}
+use Rattle.law_crash.proofs.Owners.{OwnedBy, owned_by}
+use Rattle.law_crash.proofs.StepsHeld.{holds_written, write_fault}
+use Rattle.law_crash.specs.Crash.{Survives}
+use Rattle.law_crash.specs.Made.{GivesOne, WriteMade}
+use Rattle.rb_model.specs.Calls.{Action, Answer, Call, Done, Refused, MayAnswer, Waits, Write, early_tests, failed_in, first_of, is_disk_fault, none_applies, serial_tests, waited, write_tests, WritesIn}
 use Rattle.rb_model.specs.Change.{Asked}
 use Rattle.rb_model.specs.NextState.{AfterWait, change_in, queued, written}
 use Rattle.rb_model.specs.Answers.{write_answer}
@@ -39,16 +39,16 @@ use Rattle.rb_model.specs.declared.refusal.Refusal.{Refusal}
 use Rattle.rb_model.specs.declared.refusal.Refusal.TheVariants.{Deadlock, DiskFault}
 use Rattle.rb_model.proofs.Stops.{the_fault}
 use Rattle.rb_sessions.specs.Kept.{KeptSession, holding, kept_at, with_kept, wrote}
-use Rattle.rb_standing.specs.Standing.{env_of}
-use Rattle.rb_standing.specs.States.{BlocksStand}
-use Rattle.rb_undoengine.proofs.Firsts.{row_tests, split_tests}
-use Rattle.rb_undoengine.proofs.HolderWords.{holder_is}
-use Rattle.rb_undoengine.proofs.Young.{young}
-use Rattle.rb_undoengine.specs.Steps.{IsAbout, IsHolder, NotOthers, refusal_of}
-use Rattle.rb_verdict.specs.Verdict.{IsOwnId}
-use Rattle.rb_views.specs.Views.{Remembers}
-use Rattle.rb_views.proofs.Queues.{held_remembered, queue_remembered}
-use Rattle.rb_views.proofs.Written.{written_remembered}
+use Rattle.law_blocks.specs.Standing.{env_of}
+use Rattle.law_blocks.specs.States.{BlocksStand}
+use Rattle.rb_steps.proofs.Firsts.{row_tests, split_tests}
+use Rattle.rb_steps.proofs.HolderWords.{holder_is}
+use Rattle.rb_steps.proofs.Young.{young}
+use Rattle.rb_steps.specs.Steps.{IsAbout, IsHolder, NotOthers, refusal_of}
+use Rattle.law_write.specs.Verdict.{IsOwnId}
+use Rattle.law_sessions.specs.Views.{Remembers}
+use Rattle.law_sessions.proofs.Queues.{held_remembered, queue_remembered}
+use Rattle.law_sessions.proofs.Written.{written_remembered}
 
 -- a fault of an attempt is one of the disk exactly where a call failed
 pub failed_is : (fault : AttemptFault) → is_disk_fault (refusal_of fault) ≡ has_failed {T = Xid} (Err fault)
@@ -92,8 +92,8 @@ module _ {S : Type 0} (s : Ghosts S) (told : s.tells) (laws : Laws s) (h : State
 
   -- by that log number
   pub answered : (g i : ℕ) → (a : WritesIn h who g i) → (r : Answer) → first_of (write_tests h (s.lsn old.store) g i who table key action) Done ≡ r
-      → Reply h (s.lsn old.store) (Write who table key action) r
-  answered g i within r is = Reply.later (write_tests h (s.lsn old.store) g i who table key action) early (g, i, within, refl) (sym is)
+      → MayAnswer h (s.lsn old.store) (Write who table key action) r
+  answered g i within r is = MayAnswer.later (write_tests h (s.lsn old.store) g i who table key action) early (g, i, within, refl) (sym is)
 
   module _ (new : EngineView S) (same : SameStore s old.store new.store) where
     pub step_done : (x : Xid) → GivesOne s old.store new.store true (λ now. WriteMade h goes.xids who table key action x (s.blocks old.store) now)
@@ -255,7 +255,7 @@ module _ {S : Type 0} (s : Ghosts S) (told : s.tells) (laws : Laws s) (h : State
   pub does_after : (call : Call) (answer : Answer) (new : EngineView S) → Does s h call answer mid new → Does s h call answer old new
   does_after call answer new does =
       let number : s.lsn mid.store ≡ s.lsn old.store = let n = logs.number refl in omega (arith, n) in record {
-        reply = subst (λ (n : ℕ). Reply h n call answer) number does.reply;
+        reply = subst (λ (n : ℕ). MayAnswer h n call answer) number does.reply;
         now = does.now;
         after = does.after;
         keeps = does.keeps;

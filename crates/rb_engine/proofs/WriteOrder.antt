@@ -1,8 +1,8 @@
 -- The tests of a write in their order, and the write behind them: those that come first only load blocks.
 use Rattle.std.proofs.Common.{◌≡◌, ◌≤◌, ⊎_elim, ℕ, Bool, true, false, not, List, [], length, Option, None, Some, Result, Ok, Err, IfErr, IfOk, refl, sym, ◌∙◌, ap, subst, arith}
 use Rattle.std.proofs.lemmas.Bool.{cases_Bool, false≢true}
-use Rattle.rb_attempt.specs.Refusals.{has_failed}
-use Rattle.rb_attempt.specs.declared.ask.AttemptFault.{AttemptFault}
+use Rattle.rb_write.specs.Refusals.{has_failed}
+use Rattle.rb_write.specs.declared.ask.AttemptFault.{AttemptFault}
 use Rattle.rb_base.specs.Logs.{Laws, Logs}
 use Rattle.rb_base.specs.declared.ids.Xid.{Xid}
 use Rattle.rb_base.specs.declared.store.Store.{Ghosts}
@@ -16,7 +16,7 @@ use Rattle.rb_engine.proofs.MakesLemmas.{makes_loaded, makes_written}
 use Rattle.rb_engine.proofs.StepLemmas.{in_step_same}
 use Rattle.rb_engine.proofs.TellsLemmas.{tells_written}
 use Rattle.rb_engine.proofs.WriteLemmas.{about, does_after, failed_is, stands_loaded, step_done, step_failed, step_refused, step_waited, the_failure}
-use Rattle.rb_image.specs.Made.{GivesOne, TellsLooks, WriteMade}
+use Rattle.law_crash.specs.Made.{GivesOne, TellsLooks, WriteMade}
 use Rattle.rb_model.specs.Answers.{write_answer}
 use Rattle.rb_model.specs.Calls.{Action, Done, Refused, Write, WritesIn, early_tests, first_of, is_disk_fault, none_applies, write_tests}
 use Rattle.rb_model.specs.Change.{Asked}
@@ -27,11 +27,11 @@ use Rattle.rb_model.specs.declared.refusal.Refusal.TheVariants.{Deadlock, DiskFa
 use Rattle.rb_model.specs.declared.wrote.Wrote.{Wrote}
 use Rattle.rb_model.specs.declared.wrote.Wrote.TheVariants as wrotes
 use Rattle.rb_sessions.specs.Kept.{holding, kept_at, with_kept, wrote}
-use Rattle.rb_standing.specs.Standing.{env_of, logged_of}
-use Rattle.rb_standing.specs.States.{BlocksStand}
-use Rattle.rb_undoengine.proofs.Somewhere.{somewhere}
-use Rattle.rb_undoengine.specs.Steps.{IsAbout, MayWrite, NotOthers, refusal_of}
-use Rattle.rb_views.specs.Views.{Remembers}
+use Rattle.law_blocks.specs.Standing.{env_of, logged_of}
+use Rattle.law_blocks.specs.States.{BlocksStand}
+use Rattle.rb_steps.proofs.Somewhere.{somewhere}
+use Rattle.rb_steps.specs.Steps.{IsAbout, MayWrite, NotOthers, refusal_of}
+use Rattle.law_sessions.specs.Views.{Remembers}
 
 -- The engine stays in order where a call that only loads fails, by which it is stopped, or doesn't.
 pub loaded_in_step : {S : Type 0} (s : Ghosts S) (kept now : Kept) (old new : S) → IsInStep s kept old → kept.stopped ≡ false → s.shape_of new ≡ s.shape_of old → (fault : Bool) → StopsIf fault kept now → (fault ≡ false → Logs s old new [] true) → IsInStep s now new

@@ -5,7 +5,7 @@ use Rattle.rb_model.specs.Calls.{Answer, Done, Refused, first_of, is_disk_fault,
 use Rattle.rb_model.specs.Isolation.{is_read_committed}
 use Rattle.rb_model.specs.declared.refusal.Refusal.{Refusal}
 use Rattle.rb_model.specs.declared.refusal.Refusal.TheVariants.{TooOld}
-use Rattle.rb_sessions.specs.declared.entry.Session.{Session}
+use Rattle.rb_sessions.specs.declared.row.Session.{Session}
 
 -- the first of these tests that applies refuses so
 abbrev pub Refuses : List (Bool × Answer) → Refusal → Type 0

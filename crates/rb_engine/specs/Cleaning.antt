@@ -12,8 +12,8 @@ use Rattle.rb_engine.specs.Finishing.{Fails}
 use Rattle.rb_engine.specs.Scanning.{ComesTo, HasKey, HasNone, IsReader}
 use Rattle.rb_heap.specs.Cleaning.{cleaned_home}
 use Rattle.rb_heap.specs.Homes.{home_of}
-use Rattle.rb_image.specs.Crash.{Survives}
-use Rattle.rb_image.specs.Holds.{Holds}
+use Rattle.law_crash.specs.Crash.{Survives}
+use Rattle.law_crash.specs.Holds.{Holds}
 use Rattle.rb_model.specs.Calls.{Call}
 use Rattle.rb_model.specs.State.{State}
 use Rattle.rb_model.specs.declared.refusal.Refusal.{Refusal}
@@ -21,8 +21,8 @@ use Rattle.rb_model.specs.declared.refusal.Refusal.TheVariants.{TooOld}
 use Rattle.rb_model.specs.declared.row.Fetched.{Fetched}
 use Rattle.rb_sessions.specs.Kept.{kept_at, named}
 use Rattle.rb_sessions.specs.declared.cursor.Cursor.{Cursor}
-use Rattle.rb_standing.specs.Standing.{env_of, segments_of}
-use Rattle.rb_views.specs.Views.{home_in}
+use Rattle.law_blocks.specs.Standing.{env_of, segments_of}
+use Rattle.law_sessions.specs.Views.{home_in}
 
 -- Block b is cleaned of the transactions that had ended before: each Open entry of one tells its number, or its bound,
 -- as the headers of before know it, and all else of the home stays but the locks that name such an entry.

@@ -9,10 +9,10 @@ use Rattle.rb_base.specs.declared.sizes.TheConstants.{SLOTS}
 use Rattle.rb_base.specs.declared.store.Store.{Ghosts}
 use Rattle.rb_copies.specs.Copies.{CopyTable}
 use Rattle.rb_engine.specs.Retains.{Retains}
-use Rattle.rb_image.specs.Crash.{Survives}
-use Rattle.rb_image.specs.Holds.{Holds}
+use Rattle.law_crash.specs.Crash.{Survives}
+use Rattle.law_crash.specs.Holds.{Holds}
 use Rattle.rb_model.specs.Answers.{write_answer}
-use Rattle.rb_model.specs.Calls.{Action, Answer, Call, Done, Reply, Write, failed_in, is_disk_fault}
+use Rattle.rb_model.specs.Calls.{Action, Answer, Call, Done, MayAnswer, Write, failed_in, is_disk_fault}
 use Rattle.rb_model.specs.Change.{Asked}
 use Rattle.rb_model.specs.NextState.{After, Grows, unqueued}
 use Rattle.rb_model.specs.Queue.{Waiter, first_ready, is_queued}
@@ -20,11 +20,11 @@ use Rattle.rb_model.specs.Rows.{last_scn}
 use Rattle.rb_model.specs.State.{State, asked_of, isolation_of}
 use Rattle.rb_model.specs.declared.refusal.Refusal.{Refusal}
 use Rattle.rb_model.specs.declared.wrote.Wrote.{Wrote}
-use Rattle.rb_outliving.specs.Copies.{CopiesStand}
+use Rattle.law_copies.specs.Copies.{CopiesStand}
 use Rattle.rb_sessions.specs.Kept.{KeptSession, kept_at}
 use Rattle.rb_sessions.specs.declared.sessions.TheConstants.{SESSIONS}
-use Rattle.rb_standing.specs.Standing.{env_of}
-use Rattle.rb_views.specs.Views.{Remembers}
+use Rattle.law_blocks.specs.Standing.{env_of}
+use Rattle.law_sessions.specs.Views.{Remembers}
 use Rattle.rb_waits.specs.Room.{AreQueuedOnce}
 
 -- what the engine has in memory: the table of sessions, the queue of those that wait, the last commit number, whether
@@ -131,7 +131,7 @@ Keeps h call answer now = (s table key : ℕ) (action : Action)
 -- besides.
 pub record Does {S : Type 0} (s : Ghosts S) (h : State) (call : Call) (answer : Answer) (old new : EngineView S) : Type
     0 where
-  pub reply : Reply h (s.lsn old.store) call answer
+  pub reply : MayAnswer h (s.lsn old.store) call answer
   pub now : State
   pub after : After h call answer now
   pub keeps : h.stopped ≡ false → Keeps h call answer now

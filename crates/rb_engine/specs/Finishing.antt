@@ -2,20 +2,20 @@
 use Rattle.std.specs.Prelude.{◌≡◌, ◌+◌, ◌-◌, ◌*◌, ◌∷◌, ◌++◌, ℕ, Bool, true, false}
 use Rattle.std.specs.Prelude.{length, take, [], Option, None, Some, List, Result, Ok, Err}
 use Rattle.rb_base.specs.declared.ids.Xid.{Xid}
-use Rattle.rb_aging.specs.Kept.{SegmentsAge}
+use Rattle.law_aging.specs.Kept.{SegmentsAge}
 use Rattle.rb_base.specs.declared.store.Store.{Ghosts}
-use Rattle.rb_image.specs.Crash.{Survives}
-use Rattle.rb_image.specs.Holds.{Holds}
-use Rattle.rb_image.specs.Made.{BackOver, KeepsIds}
+use Rattle.law_crash.specs.Crash.{Survives}
+use Rattle.law_crash.specs.Holds.{Holds}
+use Rattle.law_crash.specs.Made.{BackOver, KeepsIds}
 use Rattle.rb_model.specs.Calls.{Call, Commit}
 use Rattle.rb_model.specs.NextState.{committed, ended, without_owner}
 use Rattle.rb_model.specs.Rows.{last_scn}
 use Rattle.rb_model.specs.State.{Cursor, State, session_own}
 use Rattle.rb_model.specs.declared.refusal.Refusal.{Refusal}
 use Rattle.rb_model.specs.declared.refusal.Refusal.TheVariants.{DiskFault}
-use Rattle.rb_standing.specs.Groups.{IsCommitted, IsEnded}
-use Rattle.rb_standing.specs.NextStates.{with_own}
-use Rattle.rb_standing.specs.Standing.{env_of, segments_of}
+use Rattle.law_blocks.specs.Groups.{IsCommitted, IsEnded}
+use Rattle.law_blocks.specs.NextStates.{with_own}
+use Rattle.law_blocks.specs.Standing.{env_of, segments_of}
 
 -- where the disk failed in a call, a crash leaves the state or what such a call may have left
 abbrev pub Fails : {S : Type 0} → Ghosts S → Option Call → State → S → S → Type 0

@@ -13,11 +13,11 @@ use Rattle.rb_model.specs.State.{State, asked_of, isolation_of}
 use Rattle.rb_model.specs.declared.mode.Isolation.TheVariants.{Serializable}
 use Rattle.rb_model.specs.declared.refusal.Refusal.{Refusal}
 use Rattle.rb_model.specs.declared.refusal.Refusal.TheVariants as refusals
-use Rattle.rb_rebuild.specs.Reading.{Worn}
-use Rattle.rb_standing.specs.Standing.{env_of, homes_of}
-use Rattle.rb_standing.specs.States.{BlocksStand}
-use Rattle.rb_undoengine.specs.Steps.{NotLate}
-use Rattle.rb_views.specs.Views.{history}
+use Rattle.law_read.specs.Reading.{Worn}
+use Rattle.law_blocks.specs.Standing.{env_of, homes_of}
+use Rattle.law_blocks.specs.States.{BlocksStand}
+use Rattle.rb_steps.specs.Steps.{NotLate}
+use Rattle.law_sessions.specs.Views.{history}
 
 -- the home of a key can't be read at a snapshot, for what a segment lost above it
 abbrev pub IsKeyWorn : State → List Xid → List (List ℕ) → ℕ → ℕ → ℕ → CrFault → Type 0

@@ -6,7 +6,7 @@ use Rattle.rb_base.specs.declared.ids.Uba.{Uba}
 use Rattle.rb_base.specs.declared.ids.Xid.{Xid}
 use Rattle.rb_base.specs.declared.sizes.TheConstants.{WORN}
 use Rattle.rb_engine.specs.Cleaning.{IsClean, OnlyCleaned, ReadIn}
-use Rattle.rb_image.specs.Made.{BackOver}
+use Rattle.law_crash.specs.Made.{BackOver}
 use Rattle.rb_model.specs.Answers.{write_answer}
 use Rattle.rb_model.specs.Calls.{Action, Answer, Call, Commit, Done, End, Fetch, Given, HasNoSlot, Marked, Numbered}
 use Rattle.rb_model.specs.Calls.{Owned, Refused, Rollback, RollbackTo, Waits, Write, WritesIn, adds, is_empty}
@@ -19,12 +19,12 @@ use Rattle.rb_model.specs.declared.refusal.Refusal.{Refusal}
 use Rattle.rb_model.specs.declared.refusal.Refusal.TheVariants.{TooOld}
 use Rattle.rb_model.specs.declared.wrote.Wrote.{Wrote}
 use Rattle.rb_sessions.specs.declared.cursor.Cursor.{Cursor}
-use Rattle.rb_standing.specs.Groups.{IsCommitted, IsEnded}
-use Rattle.rb_standing.specs.Standing.{env_of}
-use Rattle.rb_standing.specs.States.{BlocksStand}
-use Rattle.rb_standing.specs.Writing.{IsWritten}
+use Rattle.law_blocks.specs.Groups.{IsCommitted, IsEnded}
+use Rattle.law_blocks.specs.Standing.{env_of}
+use Rattle.law_blocks.specs.States.{BlocksStand}
+use Rattle.law_blocks.specs.Writing.{IsWritten}
 use Rattle.rb_undoblock.specs.declared.record.UndoRecord.{UndoRecord}
-use Rattle.rb_views.specs.Views.{IsCursor}
+use Rattle.law_sessions.specs.Views.{IsCursor}
 
 -- So many changes of a session are put back, the newest first, and then its slot ends, where it has one.
 abbrev pub EndOver : State → (s n : ℕ) → (before now : List (List ℕ)) → Type 0

@@ -4,12 +4,12 @@ use Rattle.rb_base.specs.Blocks.{IsShape}
 use Rattle.rb_base.specs.Moments.{LeavesOnly}
 use Rattle.rb_base.specs.declared.store.Store.{Ghosts}
 use Rattle.rb_engine.specs.Does.{EngineView, Stands}
-use Rattle.rb_image.specs.Crash.{Restarts}
+use Rattle.law_crash.specs.Crash.{Restarts}
 use Rattle.rb_model.specs.State.{State}
-use Rattle.rb_opening.specs.Opens.{OpensAs}
+use Rattle.rb_recovery.specs.Opens.{OpensAs}
 use Rattle.rb_restart.specs.Rollback.{BackBy}
 use Rattle.rb_segment.specs.Segments.{owed_in}
-use Rattle.rb_standing.specs.Standing.{logged_of}
+use Rattle.law_blocks.specs.Standing.{logged_of}
 
 -- The blocks of a store open to a state. The last log number is that of the last group that patched a block, and
 -- nothing waits to be made last.

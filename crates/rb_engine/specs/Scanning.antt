@@ -14,14 +14,14 @@ use Rattle.rb_model.specs.declared.row.Fetched.{Fetched}
 use Rattle.rb_model.specs.declared.row.Fetched.TheVariants as fetched
 use Rattle.rb_model.specs.declared.row.Row.{Row}
 use Rattle.rb_sessions.specs.declared.cursor.Cursor.{Cursor}
-use Rattle.rb_rebuild.specs.Reading.{Worn}
+use Rattle.law_read.specs.Reading.{Worn}
 use Rattle.rb_sessions.specs.Kept.{kept_at, named}
-use Rattle.rb_standing.specs.Standing.{env_of, homes_of}
-use Rattle.rb_standing.specs.States.{BlocksStand}
-use Rattle.rb_undoengine.specs.Steps.{NotOthers}
-use Rattle.rb_views.specs.Laws.{rows_seen}
-use Rattle.rb_views.specs.Scan.{IsNextIn, NoneIn}
-use Rattle.rb_views.specs.Views.{IsCursor, history, home_in}
+use Rattle.law_blocks.specs.Standing.{env_of, homes_of}
+use Rattle.law_blocks.specs.States.{BlocksStand}
+use Rattle.rb_steps.specs.Steps.{NotOthers}
+use Rattle.law_sessions.specs.Laws.{rows_seen}
+use Rattle.law_sessions.specs.Scan.{IsNextIn, NoneIn}
+use Rattle.law_sessions.specs.Views.{IsCursor, history, home_in}
 
 -- Blocks stand for a state of which this is a cursor.
 pub record IsReader (h : State) (xids : List Xid) (blocks : List (List ℕ)) (m : Cursor) : Type 0 where

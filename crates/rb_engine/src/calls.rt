@@ -8,8 +8,8 @@ ghost use Rattle.rb_engine.specs.Does.{Does, LeavesState, Resumes, SameStore, St
 ghost use Rattle.rb_engine.specs.Lateness.{ResumeNeedsLost, WriteNeedsLost};
 ghost use Rattle.rb_engine.specs.Makes.{Makes, ResumeMakes};
 ghost use Rattle.rb_engine.specs.Scanning.{NeedsLost};
-ghost use Rattle.rb_image.specs.Keeps.{KeepsRows};
-ghost use Rattle.rb_image.specs.Made.{TellsLooks};
+ghost use Rattle.law_crash.specs.Keeps.{KeepsRows};
+ghost use Rattle.law_crash.specs.Made.{TellsLooks};
 ghost use Rattle.rb_model.specs.Answers.{action_of, write_answer, plain_answer, fetch_answer, commit_answer, LeavesRow};
 ghost use Rattle.rb_model.specs.Answers.{marks_answer};
 ghost use Rattle.rb_model.specs.Calls.{is_disk_fault};

@@ -9,8 +9,8 @@ ghost use Rattle.rb_base.specs.Logs.{Logs};
 ghost use Rattle.rb_engine.specs.Does.{Does, IsInStep, SameStore, Stands};
 ghost use Rattle.rb_engine.specs.Finishing.{Commits, HasNoNumber, PutsAllBack, PutsBack};
 ghost use Rattle.rb_engine.specs.Makes.{Makes};
-ghost use Rattle.rb_image.specs.Holds.{Holds};
-ghost use Rattle.rb_image.specs.Keeps.{KeepsRows};
+ghost use Rattle.law_crash.specs.Holds.{Holds};
+ghost use Rattle.law_crash.specs.Keeps.{KeepsRows};
 ghost use Rattle.rb_model.specs.Answers.{commit_answer, plain_answer};
 ghost use Rattle.rb_model.specs.Calls.{is_disk_fault};
 ghost use Rattle.rb_model.specs.Calls as machine;
@@ -18,15 +18,15 @@ ghost use Rattle.rb_model.specs.Queue.{is_queued};
 ghost use Rattle.rb_model.specs.Rows.{last_scn};
 ghost use Rattle.rb_model.specs.State.{State, session_own};
 ghost use Rattle.rb_sessions.specs.Kept.{kept_at};
-ghost use Rattle.rb_standing.specs.Standing.{env_of};
-ghost use Rattle.rb_verdict.specs.Verdict.{IsOwnId};
+ghost use Rattle.law_blocks.specs.Standing.{env_of};
+ghost use Rattle.law_write.specs.Verdict.{IsOwnId};
 
 use crate::checks::check_session;
 use crate::memory::Memory;
 use rb_base::{Failed, Group, SLOTS, Scn, Store, Xid};
 use rb_model::Refusal;
 use rb_sessions::SESSIONS;
-use rb_undoengine::{back_step, commit_step, end_step};
+use rb_steps::{back_step, commit_step, end_step};
 
 /// Gives the store the group of a commit, and makes all groups last.
 fn commit_and_flush<T: Store>(store: &mut T, xid: Xid, scn: Scn) -> Result<(), Failed>

@@ -7,9 +7,9 @@ ghost use Rattle.rb_engine.specs.Does.{StopsIf};
 ghost use Rattle.rb_engine.specs.Lateness.{IsTimely, LateAs};
 ghost use Rattle.rb_model.specs.State.{State};
 ghost use Rattle.rb_sessions.specs.declared.sessions.TheConstants.{SESSIONS};
-ghost use Rattle.rb_standing.specs.Standing.{env_of};
-ghost use Rattle.rb_standing.specs.States.{BlocksStand};
-ghost use Rattle.rb_views.specs.Views.{Remembers};
+ghost use Rattle.law_blocks.specs.Standing.{env_of};
+ghost use Rattle.law_blocks.specs.States.{BlocksStand};
+ghost use Rattle.law_sessions.specs.Views.{Remembers};
 
 use crate::memory::Memory;
 use rb_base::{Scn, Store};

@@ -17,7 +17,7 @@ use crate::memory::Memory;
 use rb_base::{Failed, OpenFault, Store};
 use rb_copies::{COPIES, Copies};
 use rb_cr::Scratch;
-use rb_opening::open_blocks;
+use rb_recovery::open_blocks;
 use rb_segment::commit_scn_of;
 use rb_sessions::Sessions;
 use rb_waits::Waits;

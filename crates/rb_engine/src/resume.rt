@@ -4,7 +4,7 @@ ghost use Rattle.rb_base.specs.Counts.{IsCountedAs};
 ghost use Rattle.rb_engine.specs.Does.{IsInStep, Resumes, SameStore, Stands, resume_fault};
 ghost use Rattle.rb_engine.specs.Lateness.{ResumeNeedsLost};
 ghost use Rattle.rb_engine.specs.Makes.{ResumeMakes};
-ghost use Rattle.rb_image.specs.Made.{TellsLooks};
+ghost use Rattle.law_crash.specs.Made.{TellsLooks};
 ghost use Rattle.rb_model.specs.Queue.{first_ready, ready_count};
 ghost use Rattle.rb_model.specs.State.{State};
 

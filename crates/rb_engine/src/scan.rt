@@ -12,15 +12,15 @@ ghost use Rattle.rb_engine.specs.Cleaning.{Cleans, IsHere, MustIn, ReadIn, Serve
 ghost use Rattle.rb_engine.specs.Scanning.{Begins, Finds, HasKey, HasNext, HasNone, IsBehind};
 ghost use Rattle.rb_model.specs.Next.{is_after};
 ghost use Rattle.rb_model.specs.State.{State};
-ghost use Rattle.rb_outliving.specs.Copies.{CopiesStand};
-ghost use Rattle.rb_views.specs.Scan.{IsAskedKey};
+ghost use Rattle.law_copies.specs.Copies.{CopiesStand};
+ghost use Rattle.law_sessions.specs.Scan.{IsAskedKey};
 
 use rb_base::Store;
 use rb_copies::Copies;
 use rb_cr::{CrFault, Scratch, Snapshot, Wanted, next_at};
 use rb_model::{Fetched, Row};
 use rb_sessions::Cursor;
-use rb_undoengine::clean_step;
+use rb_steps::clean_step;
 
 /// Whether no multiple of the number of homes parts the range: then its keys are of the homes from that of its least
 /// key to that of its greatest one. Else the range goes round.

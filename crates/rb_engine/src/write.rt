@@ -8,27 +8,27 @@ ghost use Rattle.rb_engine.specs.Does.{Does, IsInStep, SameStore, Stands, StopsI
 ghost use Rattle.rb_engine.specs.Lateness.{WriteNeedsLost};
 ghost use Rattle.rb_engine.specs.Makes.{Makes};
 ghost use Rattle.rb_engine.specs.Scanning.{OtherHolds};
-ghost use Rattle.rb_image.specs.Made.{TellsLooks};
+ghost use Rattle.law_crash.specs.Made.{TellsLooks};
 ghost use Rattle.rb_model.specs.Answers.{action_by, write_answer};
 ghost use Rattle.rb_model.specs.Calls.{is_disk_fault};
 ghost use Rattle.rb_model.specs.Calls as machine;
 ghost use Rattle.rb_model.specs.Queue.{ready_count};
 ghost use Rattle.rb_model.specs.State.{State};
-ghost use Rattle.rb_standing.specs.Standing.{env_of};
-ghost use Rattle.rb_standing.specs.States.{BlocksStand};
-ghost use Rattle.rb_undoengine.specs.Steps.{refusal_of};
-ghost use Rattle.rb_views.specs.Views.{Remembers};
+ghost use Rattle.law_blocks.specs.Standing.{env_of};
+ghost use Rattle.law_blocks.specs.States.{BlocksStand};
+ghost use Rattle.rb_steps.specs.Steps.{refusal_of};
+ghost use Rattle.law_sessions.specs.Views.{Remembers};
 
 use crate::checks::check_write;
 use crate::late::check_late;
 use crate::memory::Memory;
 use crate::queue::wait_for;
-use rb_attempt::{Ask, AttemptFault, holder_of};
+use rb_write::{Ask, AttemptFault, holder_of};
 use rb_base::{Group, Store};
 use rb_cr::Scratch;
 use rb_model::{Op, Refusal, Wrote};
 use rb_sessions::Pending;
-use rb_undoengine::write_step;
+use rb_steps::write_step;
 
 /// What a write that wasn't made is refused by. Where a call of the store failed, the engine is stopped.
 fn refusal(memory: &mut Memory, fault: AttemptFault) -> Refusal

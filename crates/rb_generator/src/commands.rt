@@ -18,7 +18,7 @@ use arrayvec::ArrayVec;
 use rb_base::{Failed, Store};
 use rb_calls::{MOST_READY, answer, calls_of, resume_ready};
 use rb_engine::Engine;
-use rb_model::{Answer, Row};
+use rb_model::{Outcome, Row};
 use rb_script::Command;
 
 /// Makes a command's calls. They end at the first answer that is neither a row nor the marks of a segment.
@@ -45,7 +45,7 @@ fn make_calls<T: Store>(
         let answer = answer(engine, command, k, &mut row);
         counts.note(answer)?;
         match answer {
-            Answer::Row | Answer::Marked { .. } => {}
+            Outcome::Row | Outcome::Marked { .. } => {}
             _ => return Ok(()),
         }
     }

@@ -7,7 +7,7 @@ ghost use Rattle.rb_model.specs.Calls.{is_fault};
 
 use rb_base::Failed;
 use rb_calls::{Listener, answer_to_write};
-use rb_model::{Answer, Refusal, Row, Wrote};
+use rb_model::{Outcome, Refusal, Row, Wrote};
 
 /// How many answers of each kind there were. Those that say `ok` or `end` are in none of them.
 #[derive(Clone, Copy, Debug, PartialEq, Eq)]
@@ -36,22 +36,22 @@ impl Counts {
     }
 
     /// Counts one answer more.
-    fn count(&mut self, answer: Answer)
+    fn count(&mut self, answer: Outcome)
         requires { told self.old < 2 ^ 62 }
         ensures counted { (row : Row) → self.new ≡ plus self.old (counts_of (answer_of answer row ∷ [])) }
         ensures few { told self.new ≤ told self.old + 1 }
     {
         match answer {
-            Answer::Done | Answer::End => {}
-            Answer::Committed { number: _ } => self.committed += 1,
-            Answer::Row => self.rows += 1,
-            Answer::Waits { on: _ } => self.waits += 1,
-            Answer::Marked { .. } | Answer::Refused { why: _ } => self.refused += 1,
+            Outcome::Done | Outcome::End => {}
+            Outcome::Committed { number: _ } => self.committed += 1,
+            Outcome::Row => self.rows += 1,
+            Outcome::Waits { on: _ } => self.waits += 1,
+            Outcome::Marked { .. } | Outcome::Refused { why: _ } => self.refused += 1,
         }
     }
 
     /// Counts one answer more, and fails where it tells of a fault of the disk.
-    pub(crate) fn note(&mut self, answer: Answer) -> Result<(), Failed>
+    pub(crate) fn note(&mut self, answer: Outcome) -> Result<(), Failed>
         requires { told self.old < 2 ^ 62 }
         ensures counted { (row : Row) → self.new ≡ plus self.old (counts_of (answer_of answer row ∷ [])) }
         ensures few { told self.new ≤ told self.old + 1 }
@@ -59,7 +59,7 @@ impl Counts {
     {
         self.count(answer);
         match answer {
-            Answer::Refused {
+            Outcome::Refused {
                 why: Refusal::DiskFault,
             } => Err(Failed),
             _ => Ok(()),

@@ -51,7 +51,7 @@ impl Draws {
         let s = 1 + self.below(CALLERS) as u16;
         let k = self.below(8 * u64::from(shape.blocks));
         let t = 1 + self.below(u64::from(shape.tables)) as u16;
-        let request = choose(kind, t, k, value);
+        let request = command_for(kind, t, k, value);
         Command::Session { s, request }
     }
 }
@@ -67,7 +67,7 @@ fn cursor() -> Name
 }
 
 /// What a command of a kind, 0 to 99, asks for.
-fn choose<'a>(kind: u64, t: u16, k: u64, value: &'a [u8]) -> Request<'a>
+fn command_for<'a>(kind: u64, t: u16, k: u64, value: &'a [u8]) -> Request<'a>
     ensures { (s : ℕ) → asked_by s result ≡ chosen kind s t k value.now }
 {
     match kind {

@@ -2,7 +2,7 @@
 #![tactic(auto)]
 
 mod lines;
-mod pending;
+mod partial;
 mod runner;
 
 pub use lines::{LinesEnd, run_lines};

@@ -7,7 +7,7 @@ ghost use Rattle.rb_lines.specs.Ends.{EndsAs, ends_by_disk, ends_by_sink, ends_b
 ghost use Rattle.rb_lines.specs.Faults.{IsCountedBeside};
 ghost use Rattle.rb_lines.specs.Ran.{Did};
 
-use crate::pending::{Pending, feed, finish};
+use crate::partial::{Partial, feed, finish};
 use crate::{LineRunner, StepFault};
 use arrayvec::ArrayVec;
 use rb_base::Failed;
@@ -90,19 +90,19 @@ pub fn run_lines<M: LineRunner, S: Source, K: Sink>(
         (ends_by_sink result) }
     ensures sink { IsCountedAs (K.faults sink.old) (K.faults sink.new) (ends_by_sink result) }
 {
-    let mut pending = ArrayVec::new();
+    let mut partial = ArrayVec::new();
     let mut room = MAX_BYTES;
     while room > 0 {
         let Ok(count) = take_bytes(source, buffer, room) else {
             return LinesEnd::SourceFault;
         };
         if count == 0 {
-            return match finish(runner, sink, &pending) {
+            return match finish(runner, sink, &partial) {
                 Ok(()) => LinesEnd::Done,
                 Err(fault) => LinesEnd::from(fault),
             };
         }
-        if let Err(fault) = feed(runner, sink, &mut pending, &buffer[..count]) {
+        if let Err(fault) = feed(runner, sink, &mut partial, &buffer[..count]) {
             return LinesEnd::from(fault);
         }
         room -= count;

@@ -43,7 +43,7 @@ pub trait LineRunner {
 
     /// Does one line and puts its replies. The line comes without its LF. Of a line of more than 512 bytes any
     /// 513 or more of its first bytes serve. A fault of the disk is the line's last reply.
-    fn step<K: Sink>(&mut self, line: &[u8], sink: &mut K) -> Result<(), StepFault>
+    fn run_line<K: Sink>(&mut self, line: &[u8], sink: &mut K) -> Result<(), StepFault>
         ensures did { (m : Logged) → stands self.old m → m.state.stopped ≡ false
             → Did stands since self.old self.new m
             (λ now. LineRanAs (outside_by worn makes) m now line.now K.tells (K.held sink.old)

@@ -2,8 +2,8 @@
 use Rattle.std.specs.Prelude.{◌≡◌, ℕ, Option, None, Some, Result, Ok, Err}
 use Rattle.rb_model.specs.Calls.{Action, Answer, Waits, Numbered, Given, Marked, Refused}
 use Rattle.rb_model.specs.Calls as calls
-use Rattle.rb_model.specs.declared.answer.Answer as code
-use Rattle.rb_model.specs.declared.answer.Answer.TheVariants as answers
+use Rattle.rb_model.specs.declared.outcome.Outcome as code
+use Rattle.rb_model.specs.declared.outcome.Outcome.TheVariants as answers
 use Rattle.rb_model.specs.declared.marks.Marks.{Marks}
 use Rattle.rb_model.specs.declared.op.Op.{Op}
 use Rattle.rb_model.specs.declared.op.Op.TheVariants as op
@@ -66,7 +66,7 @@ LeavesRow (Ok fetched.End) old new = new ≡ old
 LeavesRow (Err why) old new = new ≡ old
 
 -- the code's answer, with the row as the call leaves it
-abbrev pub answer_of : code.Answer → Row → Answer
+abbrev pub answer_of : code.Outcome → Row → Answer
 answer_of answers.Done row = calls.Done
 answer_of (answers.Waits on) row = Waits on
 answer_of (answers.Committed number) row = Numbered number

@@ -302,10 +302,10 @@ pub record IsTooOld (h : State) (call : Call) (r : Answer) : Type 0 where
 
 -- The call may have this answer: that of the first test that applies, or else the good one; a fault of the disk in the
 -- place of any answer that comes after the early tests; or, where it reads at a snapshot, that this is too old.
-pub data Reply (h : State) (logged : ℕ) (call : Call) (r : Answer) : Type 0 where
+pub data MayAnswer (h : State) (logged : ℕ) (call : Call) (r : Answer) : Type 0 where
   early : none_applies (early_tests h call) ≡ false → r ≡ first_of (early_tests h call) Done
-      → Reply h logged call r
+      → MayAnswer h logged call r
   later : (tests : List (Bool × Answer)) → none_applies (early_tests h call) ≡ true
-      → LaterTests h logged call tests → r ≡ first_of tests (granted h call) → Reply h logged call r
-  fault : none_applies (early_tests h call) ≡ true → r ≡ Refused DiskFault → Reply h logged call r
-  old : none_applies (early_tests h call) ≡ true → IsTooOld h call r → Reply h logged call r
+      → LaterTests h logged call tests → r ≡ first_of tests (granted h call) → MayAnswer h logged call r
+  fault : none_applies (early_tests h call) ≡ true → r ≡ Refused DiskFault → MayAnswer h logged call r
+  old : none_applies (early_tests h call) ≡ true → IsTooOld h call r → MayAnswer h logged call r

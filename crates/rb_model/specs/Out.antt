@@ -4,7 +4,7 @@ use Rattle.std.specs.Prelude.{Bool, true, false}
 use Rattle.std.specs.Prelude.{MatchBool, List, [], ◌∷◌, ◌++◌, length, Option, None, Some}
 use Rattle.rb_model.specs.Change.{Asked}
 use Rattle.rb_model.specs.State.{State, asked_of}
-use Rattle.rb_model.specs.Calls.{Call, Write, Answer, Given, Marked, Refused, Reply, failed_in, is_fault}
+use Rattle.rb_model.specs.Calls.{Call, Write, Answer, Given, Marked, Refused, MayAnswer, failed_in, is_fault}
 use Rattle.rb_model.specs.NextState.{After, Grows, unqueued}
 use Rattle.rb_model.specs.Queue.{first_ready}
 use Rattle.rb_model.specs.Lines.{Command, Spells, SpellsNone, call_of, most_calls, caller}
@@ -35,7 +35,7 @@ outside_by worn makes = record { worn = worn; makes = makes }
 -- disk has failed, the log number goes up by the groups of the call, 2^14 at most, and the call makes the blocks that
 -- follow.
 pub record CallOut (m : Logged) (outside : Outside) (call : Call) (answer : Answer) (m2 : Logged) : Type 0 where
-  pub reply : Reply m.state m.lsn call answer
+  pub reply : MayAnswer m.state m.lsn call answer
   pub worn : (snapshot lost : ℕ) → answer ≡ Refused (TooOld snapshot lost)
       → outside.worn m.state m.blocks call snapshot lost
   pub state : After m.state call answer m2.state
@@ -68,7 +68,7 @@ CommandOut m outside c out m2 = CallsOut m outside c 0 (most_calls m.state.shape
 -- keeps its place in the queue.
 pub record Resumed (m : Logged) (outside : Outside) (s : ℕ) (asked : Asked) (answer : Answer) (m2 : Logged) : Type
     0 where
-  pub reply : Reply (unqueued m.state s) m.lsn (Write s asked.table asked.key asked.action) answer
+  pub reply : MayAnswer (unqueued m.state s) m.lsn (Write s asked.table asked.key asked.action) answer
   pub worn : (snapshot lost : ℕ) → answer ≡ Refused (TooOld snapshot lost)
       → outside.worn m.state m.blocks (Write s asked.table asked.key asked.action) snapshot lost
   pub state : MatchBool (is_fault answer) (m2.state ≡ record m.state { stopped = true })

@@ -1,7 +1,7 @@
 //! The abstract machine of numbered commits, in `specs/`, and the plain types of the engine's calls.
 #![tactic(auto)]
 
-mod answer;
+mod outcome;
 mod laws;
 mod marks;
 mod mode;
@@ -11,7 +11,7 @@ mod refusal;
 mod row;
 mod wrote;
 
-pub use answer::Answer;
+pub use outcome::Outcome;
 pub use laws::book_laws;
 pub use marks::Marks;
 pub use mode::{Isolation, Mode};

@@ -24,21 +24,21 @@ use Rattle.rb_segment.specs.Calls.{slot_patches}
 use Rattle.rb_segment.specs.Header.{Header, Segment, record_in, slot_in}
 use Rattle.rb_segment.specs.Moves.{taken_back}
 use Rattle.rb_segment.specs.Segments.{commit_scn}
-use Rattle.rb_standing.specs.Groups.{IsPutBack, header_at, last_record}
-use Rattle.rb_standing.specs.Standing.{SoundAs, Standing, homes_of, logged_of, segments_of}
-use Rattle.rb_standing.specs.Values.{IsSaved, Listed, Past, slot_of, wraps_of, xid_in}
-use Rattle.rb_standing.specs.Writes.{back_segment}
-use Rattle.rb_standing.proofs.Addresses.{listed_reads}
-use Rattle.rb_standing.proofs.BlocksBack.{Homes2, blocks_back, logged, put_values}
-use Rattle.rb_standing.proofs.OwedMoves.{owed_back}
-use Rattle.rb_standing.proofs.SegmentRead.{RowsOrHeader, segments_put_back}
-use Rattle.rb_standing.proofs.SlotsMoved.{slot_other}
+use Rattle.law_blocks.specs.Groups.{IsPutBack, header_at, last_record}
+use Rattle.law_blocks.specs.Standing.{SoundAs, Standing, homes_of, logged_of, segments_of}
+use Rattle.law_blocks.specs.Values.{IsSaved, Listed, Past, slot_of, wraps_of, xid_in}
+use Rattle.law_blocks.specs.Writes.{back_segment}
+use Rattle.law_blocks.proofs.Addresses.{listed_reads}
+use Rattle.law_blocks.proofs.BlocksBack.{Homes2, blocks_back, logged, put_values}
+use Rattle.law_blocks.proofs.OwedMoves.{owed_back}
+use Rattle.law_blocks.proofs.SegmentRead.{RowsOrHeader, segments_put_back}
+use Rattle.law_blocks.proofs.SlotsMoved.{slot_other}
 use Rattle.rb_txntable.specs.Slots.{no_slot}
 use Rattle.rb_txntable.specs.declared.slots.TableSlot.{TableSlot}
 use Rattle.rb_undo.specs.Backs.{back_patches, header_for, newest_of, newest_record, CanBack, TakesBack}
 use Rattle.rb_undoblock.specs.Undo.{undo_at}
 use Rattle.rb_undoblock.specs.declared.record.UndoRecord.{UndoRecord}
-use Rattle.rb_walk.specs.Walk.{Change, own}
+use Rattle.law_home.specs.Walk.{Change, own}
 
 -- what a put back leaves of the transaction's slot: it runs and has one live change less
 pub less_live : (shape : Shape) (x : Xid) (u : UndoRecord) (before now : List (List ℕ)) (n : ℕ) → x.slot < 16 → TakesBack shape x u before now → HasLive shape before x (n + 1) → HasLive shape now x n

@@ -21,18 +21,18 @@ use Rattle.rb_segment.specs.Calls.{slot_patches}
 use Rattle.rb_segment.specs.Header.{Header, Segment, header_of, slot_in}
 use Rattle.rb_segment.specs.Moves.{ended, with_header}
 use Rattle.rb_segment.specs.Segments.{commit_scn}
-use Rattle.rb_standing.specs.Groups.{IsEnded, header_at}
-use Rattle.rb_standing.specs.Standing.{SoundAs, Standing, homes_of, logged_of, segments_of}
-use Rattle.rb_standing.specs.Values.{Past, owed, slot_of}
-use Rattle.rb_standing.specs.Writes.{ended_segments}
-use Rattle.rb_standing.proofs.BlocksDone.{end_keeps}
-use Rattle.rb_standing.proofs.Group.{logged_next}
-use Rattle.rb_standing.proofs.OwedMoves.{owed_ended}
-use Rattle.rb_standing.proofs.SegmentRead.{segments_ended}
-use Rattle.rb_standing.proofs.SlotsMoved.{slot_after, slot_other}
+use Rattle.law_blocks.specs.Groups.{IsEnded, header_at}
+use Rattle.law_blocks.specs.Standing.{SoundAs, Standing, homes_of, logged_of, segments_of}
+use Rattle.law_blocks.specs.Values.{Past, owed, slot_of}
+use Rattle.law_blocks.specs.Writes.{ended_segments}
+use Rattle.law_blocks.proofs.BlocksDone.{end_keeps}
+use Rattle.law_blocks.proofs.Group.{logged_next}
+use Rattle.law_blocks.proofs.OwedMoves.{owed_ended}
+use Rattle.law_blocks.proofs.SegmentRead.{segments_ended}
+use Rattle.law_blocks.proofs.SlotsMoved.{slot_after, slot_other}
 use Rattle.rb_txntable.specs.declared.slots.TableSlot.{TableSlot}
 use Rattle.rb_undo.specs.Backs.{header_for}
-use Rattle.rb_walk.specs.Walk.{Change, own}
+use Rattle.law_home.specs.Walk.{Change, own}
 
 -- the group that ends a transaction's slot
 abbrev pub end_group : Shape → List (List ℕ) → Xid → List Patch

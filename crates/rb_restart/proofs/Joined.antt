@@ -13,7 +13,7 @@ use Rattle.rb_model.specs.Rows.{TableRow}
 use Rattle.rb_restart.specs.Rollback.{BackBy, IsBackGroup, IsPartlyBack, SameBooks}
 use Rattle.rb_restart.specs.Steps.{IsIdle, MayRoll, PutsBack, Rolls}
 use Rattle.rb_segment.specs.Segments.{owed_in}
-use Rattle.rb_standing.specs.Standing.{SoundAs, logged_of}
+use Rattle.law_blocks.specs.Standing.{SoundAs, logged_of}
 
 -- groups that put back, after others
 back_on : (shape : Shape) (m n all : ℕ) (a b c : List (List ℕ)) → all ≡ m + n → BackBy shape m a b → BackBy shape n b c → BackBy shape all a c

@@ -11,8 +11,8 @@ use Rattle.rb_segment.specs.Moves.{ended, taken_back}
 use Rattle.rb_txntable.specs.Slots.{no_slot}
 use Rattle.rb_txntable.specs.declared.slots.TableSlot.{TableSlot}
 use Rattle.rb_txntable.specs.declared.slots.TheConstants.{ENDED}
-use Rattle.rb_standing.specs.Groups.{GroupOn, header_at}
-use Rattle.rb_standing.proofs.SegmentRead.{RowsOrHeader, header_is, segments_off}
+use Rattle.law_blocks.specs.Groups.{GroupOn, header_at}
+use Rattle.law_blocks.proofs.SegmentRead.{RowsOrHeader, header_is, segments_off}
 
 module _ (shape : Shape) (t : ℕ) (Is : ℕ → Type 0) (before now : List (List ℕ)) (group : GroupOn shape Is before now) (only : (b : ℕ) → Is b → RowsOrHeader shape (t / 16) b) where
   header_off : (g : ℕ) → g ≢ t / 16 → header_in shape now g ≡ header_in shape before g

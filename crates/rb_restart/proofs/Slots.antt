@@ -11,9 +11,9 @@ use Rattle.rb_restart.specs.Steps.{HasLive, IsIdle}
 use Rattle.rb_segment.proofs.Parts.{slot_read}
 use Rattle.rb_segment.specs.Header.{Header, header_of, slot_in, slot_owed}
 use Rattle.rb_segment.specs.Segments.{owed_in}
-use Rattle.rb_standing.specs.Standing.{segments_of}
-use Rattle.rb_standing.specs.Values.{owed, slot_of}
-use Rattle.rb_standing.proofs.SegmentRead.{header_is}
+use Rattle.law_blocks.specs.Standing.{segments_of}
+use Rattle.law_blocks.specs.Values.{owed, slot_of}
+use Rattle.law_blocks.proofs.SegmentRead.{header_is}
 use Rattle.rb_txntable.specs.Slots.{slot_at}
 use Rattle.rb_txntable.specs.declared.slots.TableSlot.{TableSlot}
 use Rattle.rb_undo.specs.Backs.{header_for}

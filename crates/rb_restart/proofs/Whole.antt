@@ -7,7 +7,7 @@ use Rattle.rb_model.specs.Rows.{TableRow}
 use Rattle.rb_restart.specs.Rollback.{AreIdle, RolledBack, StaySound}
 use Rattle.rb_restart.specs.Steps.{MayRoll, PutsBack, Rolls}
 use Rattle.rb_restart.proofs.Slots.{owed_none}
-use Rattle.rb_standing.specs.Standing.{SoundAs, logged_of}
+use Rattle.law_blocks.specs.Standing.{SoundAs, logged_of}
 
 pub rolled_back : {S : Type 0} (s : Ghosts S) (shape : Shape) (old new : S) (most : ℕ) (going : Bool) (a : Rolls s shape old new most going (AreIdle shape)) (number : ℕ) (rows : List TableRow) → s.tells → s.lsn old ≡ logged_of shape (s.blocks old) → SoundAs shape (s.blocks old) number rows
     → StaySound shape number rows (s.lsn old) a.groups (s.blocks old) × (going ≡ true → RolledBack shape a.groups (s.blocks old) (s.blocks new))

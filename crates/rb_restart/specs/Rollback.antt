@@ -10,9 +10,9 @@ use Rattle.rb_model.specs.Rows.{TableRow}
 use Rattle.rb_segment.specs.Books.{book_of, ring_count}
 use Rattle.rb_segment.specs.Header.{Header, header_of}
 use Rattle.rb_segment.specs.Segments.{owed_in}
-use Rattle.rb_standing.specs.Groups.{IsEnded, IsPutBack, last_record}
-use Rattle.rb_standing.specs.Standing.{SoundAs, logged_of, segments_of}
-use Rattle.rb_standing.specs.Values.{slot_of}
+use Rattle.law_blocks.specs.Groups.{IsEnded, IsPutBack, last_record}
+use Rattle.law_blocks.specs.Standing.{SoundAs, logged_of, segments_of}
+use Rattle.law_blocks.specs.Values.{slot_of}
 
 abbrev pub header_in : Shape → List (List ℕ) → ℕ → Header
 header_in shape blocks g = header_of (block_of blocks (header_block shape g))

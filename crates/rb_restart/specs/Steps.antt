@@ -12,8 +12,8 @@ use Rattle.rb_restart.specs.Rollback.{BackBy, SameBooks, StaySound}
 use Rattle.rb_segment.specs.Calls.{Runs}
 use Rattle.rb_segment.specs.Header.{slot_in}
 use Rattle.rb_segment.specs.Segments.{owed_in}
-use Rattle.rb_standing.specs.Standing.{SoundAs, logged_of, segments_of}
-use Rattle.rb_standing.specs.Values.{slot_of}
+use Rattle.law_blocks.specs.Standing.{SoundAs, logged_of, segments_of}
+use Rattle.law_blocks.specs.Values.{slot_of}
 use Rattle.rb_undo.specs.Backs.{header_for}
 
 -- no transaction has table slot t

@@ -1,5 +1,5 @@
 //! Rolls back what was under way in a file that is opened: each transaction that runs is put back, change by change,
-//! and its table slot ends. rb_opening calls it.
+//! and its table slot ends. rb_recovery calls it.
 #![tactic(auto)]
 
 mod ending;

@@ -1,4 +1,4 @@
-//! Rolls back all that is under way. rb_opening calls it.
+//! Rolls back all that is under way. rb_recovery calls it.
 ghost use Rattle.std.specs.Prelude.{◌≡◌, ◌+◌, ◌*◌, ◌^◌, ◌<◌, ◌≤◌, ℕ, List, length};
 ghost use Rattle.std.specs.Prelude.{false, not, OnOk};
 ghost use Rattle.std.specs.Result.{is_err};
@@ -8,7 +8,7 @@ ghost use Rattle.rb_base.specs.Logs.{Logs};
 ghost use Rattle.rb_model.specs.Rows.{TableRow};
 ghost use Rattle.rb_restart.specs.Rollback.{RolledBack, StaySound};
 ghost use Rattle.rb_restart.specs.Steps.{IsIdle, Rolls};
-ghost use Rattle.rb_standing.specs.Standing.{SoundAs, logged_of};
+ghost use Rattle.law_blocks.specs.Standing.{SoundAs, logged_of};
 
 use crate::ending::end_slot;
 use crate::transaction::roll_back;

@@ -2,11 +2,11 @@
 use Rattle.std.proofs.Common.{◌≡◌, ◌≢◌, ◌∙◌, ℕ, zero, suc, ◌<◌, List, [], ◌∷◌, length, map, get_or, set, replicate, Some, refl, sym, ap, arith}
 use Rattle.std.proofs.lemmas.List.{map-set, get_or-map}
 use Rattle.rb_base.specs.declared.ids.Xid.{Xid}
-use Rattle.rb_sessions.specs.declared.entry.Entry.{Entry}
+use Rattle.rb_sessions.specs.declared.row.SessionRow.{SessionRow}
 use Rattle.rb_sessions.specs.Kept.{KeptSession, session_view, fresh}
 
 -- where one session became what a call makes of it, so did the table
-pub changed_at : (entries : List Entry) (i : ℕ) (new d : Entry) (call : KeptSession → KeptSession) (table : List KeptSession)
+pub changed_at : (entries : List SessionRow) (i : ℕ) (new d : SessionRow) (call : KeptSession → KeptSession) (table : List KeptSession)
     → i < length entries → map session_view entries ≡ table → session_view new ≡ call (session_view (get_or entries i d))
     → map session_view (set entries i new) ≡ set table i (call (get_or table i fresh))
 changed_at entries i new d call table within is new_is =
@@ -15,7 +15,7 @@ changed_at entries i new d call table within is new_is =
     ∙ ap (λ t. set t i (call (get_or t i fresh))) is
 
 -- a table of fresh sessions
-pub all_fresh : (entries : List Entry) (n : ℕ) → length entries ≡ n → ((i : ℕ) (d : Entry) → i < n → session_view (get_or entries i d) ≡ fresh) → map session_view entries ≡ replicate n fresh
+pub all_fresh : (entries : List SessionRow) (n : ℕ) → length entries ≡ n → ((i : ℕ) (d : SessionRow) → i < n → session_view (get_or entries i d) ≡ fresh) → map session_view entries ≡ replicate n fresh
 all_fresh [] zero long each = refl
 all_fresh [] (suc n) long each = absurd (omega (arith, long))
 all_fresh (e ∷ entries) zero long each = absurd (omega (arith, long))
@@ -24,7 +24,7 @@ all_fresh (e ∷ entries) (suc n) long each =
     ∙ ap (λ ks. fresh ∷ ks) (all_fresh entries n (omega (arith, long)) (λ i d lt. each (suc i) d (omega arith)))
 
 -- where none of the first n entries is of that transaction, none of the first n sessions is
-pub unowned : (entries : List Entry) (n i : ℕ) (x : Xid) → ((d : Entry) (k : ℕ) → k < n → (get_or entries k d).own ≢ Some x) → i < n → (get_or (map session_view entries) i fresh).own ≢ Some x
+pub unowned : (entries : List SessionRow) (n i : ℕ) (x : Xid) → ((d : SessionRow) (k : ℕ) → k < n → (get_or entries k d).own ≢ Some x) → i < n → (get_or (map session_view entries) i fresh).own ≢ Some x
 unowned entries zero i x none lt = λ is. omega (arith, lt)
 unowned [] (suc n) i x none lt = λ is. cc
 unowned (e ∷ entries) (suc n) zero x none lt = none e 0 (omega arith)

@@ -11,7 +11,7 @@ use Rattle.rb_model.specs.State.{Savepoint}
 use Rattle.rb_model.specs.declared.mode.Isolation.{Isolation}
 use Rattle.rb_model.specs.declared.mode.Isolation.TheVariants.{ReadCommitted}
 use Rattle.rb_sessions.specs.declared.cursor.Cursor.{Cursor}
-use Rattle.rb_sessions.specs.declared.entry.Entry.{Entry}
+use Rattle.rb_sessions.specs.declared.row.SessionRow.{SessionRow}
 use Rattle.rb_sessions.specs.declared.named.Named.{Named}
 use Rattle.rb_sessions.specs.declared.pending.Pending.{Pending}
 use Rattle.rb_sessions.specs.declared.pending.PendingOp.{PendingOp}
@@ -51,7 +51,7 @@ pending_action Lock = change.Lock
 abbrev pub asked_of_pending : Pending → Asked
 asked_of_pending p = record { table = p.table; key = p.key; action = pending_action p.op }
 
-abbrev pub session_view : Entry → KeptSession
+abbrev pub session_view : SessionRow → KeptSession
 session_view e = record {
   isolation = e.isolation;
   own = e.own;

@@ -3,7 +3,7 @@
 #![tactic(auto)]
 
 mod cursor;
-mod entry;
+mod row;
 mod isolation;
 mod named;
 mod pending;
@@ -11,7 +11,7 @@ mod savepoint;
 mod sessions;
 
 pub use cursor::Cursor;
-pub use entry::Session;
+pub use row::Session;
 pub use isolation::{isolation_at, snapshot_at};
 pub use pending::{Pending, PendingOp};
 pub use savepoint::SAVEPOINTS;

@@ -9,7 +9,7 @@ ghost use Rattle.rb_sessions.specs.Kept as kept;
 ghost use Rattle.rb_sessions.specs.Kept.{asked_of_pending, fresh, kept_at, with_kept};
 
 use crate::cursor::{CURSORS, Cursor};
-use crate::entry::{Entry, Session};
+use crate::row::{SessionRow, Session};
 use crate::pending::Pending;
 use crate::savepoint::SAVEPOINTS;
 use rb_base::Xid;
@@ -23,7 +23,7 @@ pub const SESSIONS: usize = 16;
 /// Sixteen sessions, numbered from 1.
 #[derive(Drop)]
 pub struct Sessions {
-    entries: [Entry; SESSIONS],
+    entries: [SessionRow; SESSIONS],
 }
 
 impl Model for Sessions {
@@ -41,7 +41,7 @@ impl Sessions {
         ensures { result ≡ replicate SESSIONS fresh }
     {
         Sessions {
-            entries: array::from_fn(|_| Entry::new()),
+            entries: array::from_fn(|_| SessionRow::new()),
         }
     }
 

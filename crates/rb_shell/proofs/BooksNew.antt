@@ -9,13 +9,13 @@ use Rattle.rb_base.specs.declared.shape.Shape.{Shape}
 use Rattle.rb_heap.proofs.Fresh.{new_block}
 use Rattle.rb_shell.specs.NewBooks.{new_books}
 use Rattle.rb_model.specs.Book.{fresh_book}
-use Rattle.rb_opening.specs.Opens.{books_of}
+use Rattle.rb_recovery.specs.Opens.{books_of}
 use Rattle.rb_restart.specs.Rollback.{found_book}
 use Rattle.rb_ring.specs.Ring.{extent_ord, extent_newest, head_extent, head_records, record_count, lost_number}
 use Rattle.rb_segment.specs.Books.{fresh_header}
 use Rattle.rb_segment.specs.Header.{header_of, segment_of}
-use Rattle.rb_standing.proofs.SegmentRead.{header_is}
-use Rattle.rb_standing.specs.Standing.{segments_of}
+use Rattle.law_blocks.proofs.SegmentRead.{header_is}
+use Rattle.law_blocks.specs.Standing.{segments_of}
 use Rattle.rb_txntable.specs.Slots.{slot_state, slot_touched, slot_live, slot_wrap, slot_newest, slot_before, slot_record, slot_first, slot_start}
 
 header_read : (n : ℕ) → header_of (fresh_head 2 n ++ fresh_segment) ≡ fresh_header

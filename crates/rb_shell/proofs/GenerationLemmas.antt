@@ -9,8 +9,8 @@ use Rattle.rb_generator.specs.Counted.{counts_of}
 use Rattle.rb_generator.specs.Ends.{HasGenerated, StopsBy}
 use Rattle.rb_generator.specs.Summary.{summary_text}
 use Rattle.rb_generator.specs.declared.counts.Counts.{Counts}
-use Rattle.rb_image.proofs.Crashes.{survives_on}
-use Rattle.rb_image.specs.Crash.{Survives}
+use Rattle.law_crash.proofs.Crashes.{survives_on}
+use Rattle.law_crash.specs.Crash.{Survives}
 use Rattle.rb_lines.specs.Ran.{Did}
 use Rattle.rb_model.specs.Out.{Logged}
 use Rattle.rb_model.specs.Rows.{last_scn}

@@ -4,8 +4,8 @@ use Rattle.rb_base.specs.Logs.{Laws}
 use Rattle.rb_base.specs.declared.shape.Shape.{Shape}
 use Rattle.rb_base.specs.declared.store.Store.{Ghosts}
 use Rattle.rb_engine.specs.Does.{Does, EngineView, LeavesState, SameStore}
-use Rattle.rb_image.proofs.Steps.{opens_last}
-use Rattle.rb_image.specs.Images.{HasState}
+use Rattle.law_crash.proofs.Steps.{opens_last}
+use Rattle.law_crash.specs.Images.{HasState}
 use Rattle.rb_model.specs.Calls.{Checkpoint, Done}
 use Rattle.rb_model.specs.Out.{Logged}
 use Rattle.rb_model.specs.Rows.{last_scn}

@@ -6,9 +6,9 @@ use Rattle.rb_base.specs.Moments.{weaker}
 use Rattle.rb_base.specs.declared.shape.Shape.{Shape}
 use Rattle.rb_disk.specs.Moments.{Leaves}
 use Rattle.rb_disk.specs.declared.disk.Disk.{Ghosts as DiskGhosts}
-use Rattle.rb_image.proofs.Crashes.{extends_later, extends_same, grow_same}
-use Rattle.rb_image.specs.Between.{Extends, FoundAtEnd, FoundBetween, MarksGrow, at_end, one_commit, one_write, reached, whole, with_commit}
-use Rattle.rb_image.specs.Crash.{AtEnd, OnTheWay, RestartsAt}
+use Rattle.law_crash.proofs.Crashes.{extends_later, extends_same, grow_same}
+use Rattle.law_crash.specs.Between.{Extends, FoundAtEnd, FoundBetween, MarksGrow, at_end, one_commit, one_write, reached, whole, with_commit}
+use Rattle.law_crash.specs.Crash.{AtEnd, OnTheWay, RestartsAt}
 use Rattle.rb_layout.specs.Regions.{shape_of}
 use Rattle.rb_layout.specs.declared.layout.Layout.{Layout}
 use Rattle.rb_lines.specs.Cut.{CutOff}
@@ -19,8 +19,8 @@ use Rattle.rb_model.specs.Change.{Change}
 use Rattle.rb_model.specs.Out.{Logged}
 use Rattle.rb_model.specs.Rows.{last_scn, rows_at}
 use Rattle.rb_model.specs.State.{State, opened, session_own}
-use Rattle.rb_opening.proofs.Sound.{sound_as}
-use Rattle.rb_opening.specs.Opens.{books_of}
+use Rattle.rb_recovery.proofs.Sound.{sound_as}
+use Rattle.rb_recovery.specs.Opens.{books_of}
 use Rattle.rb_restart.specs.Rollback.{found_book}
 use Rattle.rb_segment.specs.Header.{segment_of}
 use Rattle.rb_shell.proofs.BooksNew.{books_new}
@@ -31,7 +31,7 @@ use Rattle.rb_shell.specs.Left.{Left, fresh, later}
 use Rattle.rb_shell.specs.Over.{HasRows, IsCutOver, LeavesFiles, LeavesSame, LeavesSome, RunsOver, plain}
 use Rattle.rb_shell.specs.Runs.{Endures, FirstBlocks, IsSound, LeftBehind, OpensSame, first_of}
 use Rattle.rb_shell.specs.declared.script.TheConstants.{SCRIPT_BYTES}
-use Rattle.rb_standing.specs.Standing.{SoundAs, logged_of}
+use Rattle.law_blocks.specs.Standing.{SoundAs, logged_of}
 use Rattle.rb_calls.specs.Since.{engine_outside}
 use Rattle.rb_control.specs.Heads.{head_of}
 use Rattle.rb_store.specs.Meaning.{Opens}

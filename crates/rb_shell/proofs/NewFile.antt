@@ -12,8 +12,8 @@ use Rattle.rb_layout.specs.Fresh.{fresh_are_blocks}
 use Rattle.rb_layout.specs.Regions.{file_version, fresh_file, shape_of}
 use Rattle.rb_layout.specs.declared.layout.Layout.{Layout}
 use Rattle.rb_model.specs.State.{opened}
-use Rattle.rb_opening.proofs.Sound.{sound_as}
-use Rattle.rb_opening.specs.Opens.{books_of}
+use Rattle.rb_recovery.proofs.Sound.{sound_as}
+use Rattle.rb_recovery.specs.Opens.{books_of}
 use Rattle.rb_restart.proofs.Slots.{owed_is, owed_none}
 use Rattle.rb_ring.specs.Ring.{extent_ord, extent_newest, head_extent, head_records, record_count, lost_number}
 use Rattle.rb_segment.proofs.Fresh.{all_same, fresh_slot}
@@ -23,18 +23,18 @@ use Rattle.rb_segment.specs.Segments.{commit_scn, owed_in}
 use Rattle.rb_shell.proofs.Restarting.{head_small}
 use Rattle.rb_shell.specs.Runs.{IsSound}
 use Rattle.rb_sound.proofs.Fresh.{homes_fresh}
-use Rattle.rb_standing.proofs.Fresh.{fresh_stands}
-use Rattle.rb_standing.proofs.SegmentRead.{header_is, scn_least}
-use Rattle.rb_standing.specs.Fresh.{IsFresh, no_past}
-use Rattle.rb_standing.specs.Says.{walk_home}
-use Rattle.rb_standing.specs.Standing.{SoundAs, homes_of, logged_of, segments_of}
-use Rattle.rb_standing.specs.Values.{StandingAs, slot_of, wraps_of}
+use Rattle.law_blocks.proofs.Fresh.{fresh_stands}
+use Rattle.law_blocks.proofs.SegmentRead.{header_is, scn_least}
+use Rattle.law_blocks.specs.Fresh.{IsFresh, no_past}
+use Rattle.law_blocks.specs.Says.{walk_home}
+use Rattle.law_blocks.specs.Standing.{SoundAs, homes_of, logged_of, segments_of}
+use Rattle.law_blocks.specs.Values.{StandingAs, slot_of, wraps_of}
 use Rattle.rb_store.proofs.FreshOpening.{fresh_opens}
 use Rattle.rb_txntable.specs.Slots.{slot_state, slot_touched, slot_live, slot_wrap, slot_newest, slot_before, slot_record, slot_first, slot_start}
 use Rattle.rb_txntable.specs.declared.slots.TableSlot.{TableSlot}
 use Rattle.rb_undoblock.specs.Undo.{undo_at}
-use Rattle.rb_walk.specs.Kinds.{Empty, Entry, Free}
-use Rattle.rb_walk.specs.Walk.{Change, Home, AllEmpty, cell_at, entry_at, free_entry}
+use Rattle.law_home.specs.Kinds.{Empty, Entry, Free}
+use Rattle.law_home.specs.Walk.{Change, Home, AllEmpty, cell_at, entry_at, free_entry}
 
 -- the header of a segment in a new file, as block n
 header_read : (n : ℕ) → header_of (fresh_head 2 n ++ fresh_segment) ≡ fresh_header

@@ -4,8 +4,8 @@ use Rattle.std.proofs.Math.Seq.{take-nil}
 use Rattle.std.specs.List.{flat_map}
 use Rattle.std.proofs.lemmas.List.FromFn.{get_or-map-range_with_len}
 use Rattle.rb_base.specs.declared.shape.Shape.{Shape}
-use Rattle.rb_image.specs.Crash.{Restarts}
-use Rattle.rb_image.specs.Images.{HasState}
+use Rattle.law_crash.specs.Crash.{Restarts}
+use Rattle.law_crash.specs.Images.{HasState}
 use Rattle.rb_layout.specs.Regions.{shape_of}
 use Rattle.rb_control.specs.Heads.{head_of}
 use Rattle.rb_layout.specs.declared.layout.Head.{Head}
@@ -14,10 +14,10 @@ use Rattle.rb_model.specs.Book.{Book, book_at, fresh_book}
 use Rattle.rb_model.specs.Change.{Change}
 use Rattle.rb_model.specs.Rows.{TableRow, last_scn, over, rows_at}
 use Rattle.rb_model.specs.State.{State, opened}
-use Rattle.rb_opening.specs.Opens.{OpensAs, books_of}
+use Rattle.rb_recovery.specs.Opens.{OpensAs, books_of}
 use Rattle.rb_restart.specs.Rollback.{found_book}
 use Rattle.rb_segment.specs.Header.{segment_of}
-use Rattle.rb_standing.specs.Standing.{SoundAs, logged_of, segments_of}
+use Rattle.law_blocks.specs.Standing.{SoundAs, logged_of, segments_of}
 use Rattle.rb_store.specs.Meaning.{Means, Opens, OpensAt}
 
 -- the number that a log begins with is small where that of its last group is

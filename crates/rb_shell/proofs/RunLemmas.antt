@@ -8,9 +8,9 @@ use Rattle.rb_base.specs.declared.store.Store.{Ghosts}
 use Rattle.rb_disk.specs.Moments.{Leaves, Rests, rests_leave}
 use Rattle.rb_disk.specs.declared.disk.Disk.{Ghosts as DiskGhosts}
 use Rattle.rb_engine.specs.Does.{EngineView, Stands}
-use Rattle.rb_image.proofs.Crashes.{extends_later, restarts_later}
-use Rattle.rb_image.specs.Between.{Extends, reached}
-use Rattle.rb_image.specs.Crash.{AtEnd, OnTheWay, Restarts}
+use Rattle.law_crash.proofs.Crashes.{extends_later, restarts_later}
+use Rattle.law_crash.specs.Between.{Extends, reached}
+use Rattle.law_crash.specs.Crash.{AtEnd, OnTheWay, Restarts}
 use Rattle.rb_layout.specs.Regions.{shape_of}
 use Rattle.rb_layout.specs.declared.layout.Layout.{Layout}
 use Rattle.rb_lines.specs.Cut.{CutOff}
@@ -22,7 +22,7 @@ use Rattle.rb_model.specs.Lines.{lines_of}
 use Rattle.rb_model.specs.Out.{Logged, Outside}
 use Rattle.rb_model.specs.Rows.{last_scn}
 use Rattle.rb_model.specs.State.{State}
-use Rattle.rb_opening.specs.Opens.{OpensAs}
+use Rattle.rb_recovery.specs.Opens.{OpensAs}
 use Rattle.rb_restart.specs.Rollback.{BackBy}
 use Rattle.rb_segment.specs.Segments.{owed_in}
 use Rattle.rb_shell.proofs.Restarting.{restarts_found}
@@ -34,7 +34,7 @@ use Rattle.rb_shell.specs.Statuses.{EndsFormat}
 use Rattle.rb_shell.specs.declared.status.Status.{Status}
 use Rattle.rb_shell.specs.declared.status.Status.TheVariants.{Done, Usage, SourceFault, DiskFault, SinkFault, NotAStore, NoMemory, NotEmpty, TooLong}
 use Rattle.rb_sound.specs.Sound.{AreSound}
-use Rattle.rb_standing.specs.Standing.{logged_of}
+use Rattle.law_blocks.specs.Standing.{logged_of}
 use Rattle.rb_store.proofs.OneOpening.{Agree, means_alike, one_opening}
 use Rattle.rb_store.specs.Meaning.{Means, Opens, OpensAt}
 use Rattle.rb_control.specs.Heads.{head_of}

@@ -11,7 +11,7 @@ use Rattle.rb_lines.specs.Ran.{CallsBegun, CutShort, LineBegun}
 use Rattle.rb_lines.specs.declared.runner.StepFault.{StepFault}
 use Rattle.rb_lines.specs.declared.runner.StepFault.TheVariants.{Disk, Sink}
 use Rattle.rb_model.specs.Answers.{answer_of}
-use Rattle.rb_model.specs.declared.answer.Answer as code
+use Rattle.rb_model.specs.declared.outcome.Outcome as code
 use Rattle.rb_model.specs.declared.row.Row.{Row}
 use Rattle.rb_model.specs.Calls.{Answer, Call, is_fault}
 use Rattle.rb_model.specs.Lines.{Command, Spells, call_of, caller, most_calls, reply_text, without_return}
@@ -137,34 +137,34 @@ command_said m now outside line c tells before held waiting (Err Sink) short spe
     record { out = w.out; reply = inr (short, c, spells, w.reply); size = w.size; written = w.written }
 
 -- what a call ends with, by what became of its reply
-abbrev pub MatchTold : Result (Unit {0}) StepFault → code.Answer → Result code.Answer StepFault → Type 0
+abbrev pub MatchTold : Result (Unit {0}) StepFault → code.Outcome → Result code.Outcome StepFault → Type 0
 MatchTold (Ok done) answer result = result ≡ Ok answer
 MatchTold (Err fault) answer result = result ≡ Err fault
 
 -- its answer was told
-pub calls_as : (m now : Logged) (outside : Outside) (t : Option ℕ) (c : Call) (answer : code.Answer) (row : Row) (text : List ℕ) (fault : Bool) (tells : Type 0) (held waiting held2 waiting2 : List ℕ) (told : Result (Unit {0}) StepFault)
+pub calls_as : (m now : Logged) (outside : Outside) (t : Option ℕ) (c : Call) (answer : code.Outcome) (row : Row) (text : List ℕ) (fault : Bool) (tells : Type 0) (held waiting held2 waiting2 : List ℕ) (told : Result (Unit {0}) StepFault)
     → m.state.stopped ≡ false → CallOut m outside c (answer_of answer row) now → text ≡ reply_text t (answer_of answer row) → fault ≡ is_fault (answer_of answer row)
-    → Told text fault tells held waiting held2 waiting2 told → (result : Result code.Answer StepFault) → MatchTold told answer result → Calls m outside t c row now tells held waiting held2 waiting2 result
+    → Told text fault tells held waiting held2 waiting2 told → (result : Result code.Outcome StepFault) → MatchTold told answer result → Calls m outside t c row now tells held waiting held2 waiting2 result
 calls_as m now outside t c answer row text fault tells held waiting held2 waiting2 (Ok done) going once is f (fine, added) result e =
-    subst (λ (x : Result code.Answer StepFault). Calls m outside t c row now tells held waiting held2 waiting2 x) (sym e)
+    subst (λ (x : Result code.Outcome StepFault). Calls m outside t c row now tells held waiting held2 waiting2 x) (sym e)
     (record { made = once; added = subst (λ (xs : List ℕ). Added xs tells held waiting held2 waiting2) is added }, (fine_stays m.state now.state c (answer_of answer row) (sym f ∙ fine) once.state).stopped ∙ going)
 calls_as m now outside t c answer row text fault tells held waiting held2 waiting2 (Err Disk) going once is f (fine, added) result e =
-    subst (λ (x : Result code.Answer StepFault). Calls m outside t c row now tells held waiting held2 waiting2 x) (sym e)
+    subst (λ (x : Result code.Outcome StepFault). Calls m outside t c row now tells held waiting held2 waiting2 x) (sym e)
     (answer_of answer row, record { made = once; added = subst (λ (xs : List ℕ). Added xs tells held waiting held2 waiting2) is added }, ap (λ (x : State). x.stopped) (after_stops m.state now.state c (answer_of answer row) (sym f ∙ fine) once.state))
 calls_as m now outside t c answer row text fault tells held waiting held2 waiting2 (Err Sink) going once is f lost result e =
-    subst (λ (x : Result code.Answer StepFault). Calls m outside t c row now tells held waiting held2 waiting2 x) (sym e) (answer_of answer row, once, lost)
+    subst (λ (x : Result code.Outcome StepFault). Calls m outside t c row now tells held waiting held2 waiting2 x) (sym e) (answer_of answer row, once, lost)
 
 -- calls as they end
 
 module _ (start m now : Logged) (outside : Outside) (c : Command) (count : ℕ) (row : Row) (tells : Type 0) (before held waiting held2 waiting2 : List ℕ)
     (so : SaidSoFar start outside c count m tells before held waiting) where
-  abbrev Here : Result code.Answer StepFault → Type 0
+  abbrev Here : Result code.Outcome StepFault → Type 0
   Here result = Calls m outside (caller c) (call_of c count) row now tells held waiting held2 waiting2 result
 
-  pub calls_more : (answer : code.Answer) → goes_on (answer_of answer row) ≡ true → Here (Ok answer) → SaidSoFar start outside c (count + 1) now tells before held2 waiting2
+  pub calls_more : (answer : code.Outcome) → goes_on (answer_of answer row) ≡ true → Here (Ok answer) → SaidSoFar start outside c (count + 1) now tells before held2 waiting2
   calls_more answer gives here = so_far_more start m now outside c count (answer_of answer row) tells before held waiting held2 waiting2 so here.0 gives here.1
 
-  pub calls_stop : (answer : code.Answer) → count < most_calls start.state.shape c → goes_on (answer_of answer row) ≡ false → Here (Ok answer)
+  pub calls_stop : (answer : code.Outcome) → count < most_calls start.state.shape c → goes_on (answer_of answer row) ≡ false → Here (Ok answer)
       → SaidAs (CommandOut start outside c) (CallsBegun start outside c) now tells before held2 waiting2 (Ok tt)
   calls_stop answer lt other here =
       (so_far_stop start m now outside c count (most_calls start.state.shape c) (answer_of answer row) tells before held waiting held2 waiting2 so lt here.0 other, here.1)

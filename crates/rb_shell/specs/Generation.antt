@@ -7,7 +7,7 @@ use Rattle.rb_generator.specs.Counted.{counts_of}
 use Rattle.rb_generator.specs.Draws.{commands_of}
 use Rattle.rb_generator.specs.Ends.{StopsBy}
 use Rattle.rb_generator.specs.Summary.{summary_text}
-use Rattle.rb_image.specs.Crash.{Survives}
+use Rattle.law_crash.specs.Crash.{Survives}
 use Rattle.rb_layout.specs.declared.layout.Layout.{Layout}
 use Rattle.rb_model.specs.Calls.{Answer}
 use Rattle.rb_model.specs.Out.{Logged, Outside}

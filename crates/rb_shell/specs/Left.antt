@@ -2,14 +2,14 @@
 -- such a file leaves, at whatever moment it is stopped. Who has such a file needs not read what stands here: `run` says
 -- of a new file that it is one, of each file that a run over one may leave that it is one, and of each what a run does.
 use Rattle.std.specs.Prelude.{◌≡◌, ◌≤◌, ℕ, List, [], Some}
-use Rattle.rb_image.specs.Between.{Extends}
-use Rattle.rb_image.specs.Crash.{RestartsAt}
+use Rattle.law_crash.specs.Between.{Extends}
+use Rattle.law_crash.specs.Crash.{RestartsAt}
 use Rattle.rb_layout.specs.Regions.{file_version, fresh_file, shape_of}
 use Rattle.rb_layout.specs.declared.layout.Layout.{Layout}
 use Rattle.rb_model.specs.Book.{Book}
 use Rattle.rb_model.specs.Rows.{last_scn, rows_at}
 use Rattle.rb_model.specs.State.{State, opened}
-use Rattle.rb_opening.specs.Opens.{books_of}
+use Rattle.rb_recovery.specs.Opens.{books_of}
 use Rattle.rb_shell.specs.NewBooks.{new_books}
 use Rattle.rb_store.specs.Meaning.{Opens}
 

@@ -2,7 +2,7 @@
 use Rattle.std.specs.Prelude.{◌⊎◌, ℕ, List, None}
 use Rattle.rb_disk.specs.Moments.{Leaves}
 use Rattle.rb_disk.specs.declared.disk.Disk.{Ghosts as DiskGhosts}
-use Rattle.rb_image.specs.Between.{FoundAtEnd, FoundBetween, MarksGrow}
+use Rattle.law_crash.specs.Between.{FoundAtEnd, FoundBetween, MarksGrow}
 use Rattle.rb_lines.specs.Cut.{CutOff}
 use Rattle.rb_lines.specs.Ran.{Ran}
 use Rattle.rb_model.specs.Book.{Book}

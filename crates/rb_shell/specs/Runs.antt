@@ -5,8 +5,8 @@ use Rattle.rb_base.specs.declared.store.Store.{Ghosts}
 use Rattle.rb_disk.specs.Moments.{Leaves, Rests}
 use Rattle.rb_disk.specs.declared.disk.Disk.{Ghosts as DiskGhosts}
 use Rattle.rb_engine.specs.Does.{EngineView}
-use Rattle.rb_image.specs.Between.{Extends}
-use Rattle.rb_image.specs.Crash.{AtEnd, OnTheWay, Restarts, Survives}
+use Rattle.law_crash.specs.Between.{Extends}
+use Rattle.law_crash.specs.Crash.{AtEnd, OnTheWay, Restarts, Survives}
 use Rattle.rb_layout.specs.Regions.{shape_of}
 use Rattle.rb_layout.specs.declared.layout.Layout.{Layout}
 use Rattle.rb_lines.specs.Cut.{CutOff}
@@ -18,11 +18,11 @@ use Rattle.rb_model.specs.Calls.{Call}
 use Rattle.rb_model.specs.Lines.{lines_of}
 use Rattle.rb_model.specs.Out.{Logged, Outside}
 use Rattle.rb_model.specs.State.{State}
-use Rattle.rb_opening.specs.Opens.{OpensAs}
+use Rattle.rb_recovery.specs.Opens.{OpensAs}
 use Rattle.rb_restart.specs.Rollback.{BackBy}
 use Rattle.rb_segment.specs.Segments.{owed_in}
 use Rattle.rb_sound.specs.Sound.{AreSound}
-use Rattle.rb_standing.specs.Standing.{logged_of}
+use Rattle.law_blocks.specs.Standing.{logged_of}
 use Rattle.rb_control.specs.Heads.{head_of}
 use Rattle.rb_calls.specs.Since.{StandsAs, engine_outside}
 use Rattle.rb_shell.specs.Statuses.{status_of}

@@ -8,7 +8,7 @@ use Rattle.rb_model.specs.Answers.{answer_of}
 use Rattle.rb_model.specs.Lines.{Command, is_remark, reply_text, without_return}
 use Rattle.rb_model.specs.Out.{Logged, CallOut, CallsOut, Outside}
 use Rattle.rb_model.specs.Calls.{Answer, Call, is_disk_fault}
-use Rattle.rb_model.specs.declared.answer.Answer as code
+use Rattle.rb_model.specs.declared.outcome.Outcome as code
 use Rattle.rb_model.specs.declared.row.Row.{Row}
 use Rattle.rb_shell.specs.declared.replies.Waiting.{Waiting}
 use Rattle.rb_script.specs.declared.reply.Reply.{Reply}
@@ -59,7 +59,7 @@ pub record CalledOnce (m : Logged) (outside : Outside) (to : Option ℕ) (call :
 -- One call by its end: its answer, a fault of the disk, or its reply was lost.
 abbrev pub Calls : (m : Logged) (outside : Outside) (to : Option ℕ) (call : Call) (row : Row) (now : Logged)
     (tells : Type 0) (held_before waiting_before held_now waiting_now : List ℕ)
-    → Result code.Answer StepFault → Type 0
+    → Result code.Outcome StepFault → Type 0
 Calls m outside to call row now tells held_before waiting_before held_now waiting_now (Ok answer) =
     CalledOnce m outside to call (answer_of answer row) now tells held_before waiting_before held_now waiting_now
     × (now.state.stopped ≡ false)

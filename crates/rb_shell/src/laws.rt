@@ -2,14 +2,14 @@
 //! for readers and proofs to cite. Nothing calls them.
 ghost use Rattle.std.specs.Prelude.{◌≡◌, ℕ, List, [], Some};
 ghost use Rattle.rb_base.specs.Blocks.{fresh_blocks};
-ghost use Rattle.rb_image.specs.Crash.{RestartsAt};
-ghost use Rattle.rb_image.specs.Images.{MarksWithin};
+ghost use Rattle.law_crash.specs.Crash.{RestartsAt};
+ghost use Rattle.law_crash.specs.Images.{MarksWithin};
 ghost use Rattle.rb_layout.specs.Regions.{fresh_file, shape_of};
 ghost use Rattle.rb_layout.specs.declared.layout.Layout.{Layout};
 ghost use Rattle.rb_model.specs.Book.{Book};
 ghost use Rattle.rb_model.specs.Rows.{rows_at};
 ghost use Rattle.rb_model.specs.State.{State, opened};
-ghost use Rattle.rb_opening.specs.Opens.{books_of};
+ghost use Rattle.rb_recovery.specs.Opens.{books_of};
 ghost use Rattle.rb_shell.specs.Runs.{IsSound};
 ghost use Rattle.rb_store.specs.Meaning.{Opens};
 

@@ -21,7 +21,7 @@ use rb_base::Store;
 use rb_calls::{answer, calls_of, resume_ready};
 use rb_engine::Engine;
 use rb_lines::StepFault;
-use rb_model::{Answer, Row};
+use rb_model::{Outcome, Row};
 use rb_script::{Command, Reply, parse};
 use rb_stream::Sink;
 
@@ -56,7 +56,7 @@ fn call_once<T: Store, K: Sink>(
     row: &mut Row,
     waiting: &mut Waiting,
     sink: &mut K,
-) -> Result<Answer, StepFault>
+) -> Result<Outcome, StepFault>
     requires { k < most_calls (T.shape_of engine.old.store) (command_of command.now) }
     ensures did { (m : Logged) → StandsAs T.Store engine.old m → m.state.stopped ≡ false
         → Did (StandsAs T.Store) (IsSince T.Store) engine.old engine.new m (λ now. Calls m engine_outside
@@ -99,7 +99,7 @@ fn run_command<T: Store, K: Sink>(
     };
     for k in 0..calls_of(command, engine.shape()) {
         match call_once(engine, command, k, &mut row, waiting, sink)? {
-            Answer::Row | Answer::Marked { .. } => {}
+            Outcome::Row | Outcome::Marked { .. } => {}
             _ => return Ok(()),
         }
     }

@@ -17,7 +17,7 @@ use arrayvec::ArrayVec;
 use rb_base::Failed;
 use rb_calls::{Listener, MOST_READY};
 use rb_lines::StepFault;
-use rb_model::{Answer, Refusal, Row, Wrote};
+use rb_model::{Outcome, Refusal, Row, Wrote};
 use rb_script::{Reply, print};
 use rb_stream::Sink;
 
@@ -51,24 +51,24 @@ impl Waiting {
 }
 
 /// The reply to session `s`, or to none, where that answer has one.
-pub fn reply_of(s: Option<u16>, answer: Answer, row: &Row) -> Reply<'_>
+pub fn reply_of(s: Option<u16>, answer: Outcome, row: &Row) -> Reply<'_>
     requires { FitsCaller s answer }
     ensures text { text_of_reply result ≡ reply_text s (answer_of answer row.now) }
     ensures fault { tells_fault result ≡ is_fault (answer_of answer row.now) }
     ensures fits { FitsALine result }
 {
     match (answer, s) {
-        (Answer::Done, _) => Reply::Done { s },
-        (Answer::Refused { why }, _) => Reply::Refused { s, why },
-        (Answer::Marked { seg, writes, lost }, None) => Reply::Marks { seg, writes, lost },
-        (Answer::Waits { on }, Some(s)) => Reply::Waits { s, on },
-        (Answer::Committed { number }, Some(s)) => Reply::Committed { s, number },
-        (Answer::Row, Some(s)) => Reply::Row {
+        (Outcome::Done, _) => Reply::Done { s },
+        (Outcome::Refused { why }, _) => Reply::Refused { s, why },
+        (Outcome::Marked { seg, writes, lost }, None) => Reply::Marks { seg, writes, lost },
+        (Outcome::Waits { on }, Some(s)) => Reply::Waits { s, on },
+        (Outcome::Committed { number }, Some(s)) => Reply::Committed { s, number },
+        (Outcome::Row, Some(s)) => Reply::Row {
             s,
             key: row.key,
             value: row.value.as_slice(),
         },
-        (Answer::End, Some(s)) => Reply::End { s },
+        (Outcome::End, Some(s)) => Reply::End { s },
         _ => unreachable!(),
     }
 }

@@ -63,7 +63,7 @@ impl<T: Store> LineRunner for Interpreter<T> {
 
     ghost since_joined = { λ a b c m n k. since_joined a.engine b.engine c.engine m n k };
 
-    fn step<K: Sink>(&mut self, line: &[u8], sink: &mut K) -> Result<(), StepFault> {
+    fn run_line<K: Sink>(&mut self, line: &[u8], sink: &mut K) -> Result<(), StepFault> {
         do_line(&mut self.engine, line, &mut self.waiting, sink)
     }
 }

@@ -12,10 +12,10 @@ use Rattle.rb_layout.specs.Regions.{HasIdentity, block_count, file_length, file_
 use Rattle.rb_layout.specs.declared.layout.Head.{Head}
 use Rattle.rb_layout.specs.declared.layout.Layout.{Layout}
 use Rattle.rb_log.specs.GroupSlots.{IsLoggable}
-use Rattle.rb_roll.specs.Rolled.{rolled}
-use Rattle.rb_roll.proofs.Heads.{after_head}
-use Rattle.rb_roll.proofs.OneAfter.{blocks_after, groups_keep}
-use Rattle.rb_roll.proofs.Rolling.{after_high, rolled_above, rolled_again, rolled_joined}
+use Rattle.law_redo.specs.Rolled.{rolled}
+use Rattle.law_redo.proofs.Heads.{after_head}
+use Rattle.law_redo.proofs.OneAfter.{blocks_after, groups_keep}
+use Rattle.law_redo.proofs.Rolling.{after_high, rolled_above, rolled_again, rolled_joined}
 use Rattle.rb_cache.proofs.Parts.{part_front}
 use Rattle.rb_cache.specs.OnDisk.{OnDisk}
 use Rattle.rb_control.specs.HeadLaws.{same_head}

@@ -15,9 +15,9 @@ use Rattle.rb_disk.specs.declared.disk.Disk.{Ghosts}
 use Rattle.rb_layout.specs.Regions.{block_count, shape_of}
 use Rattle.rb_layout.specs.declared.layout.Head.{Head}
 use Rattle.rb_layout.specs.declared.layout.Layout.{Layout}
-use Rattle.rb_roll.specs.Rolled.{rolled, step}
-use Rattle.rb_roll.proofs.OneAfter.{block_after, groups_keep, stays}
-use Rattle.rb_roll.proofs.Rolling.{rolled_prefix}
+use Rattle.law_redo.specs.Rolled.{rolled, step}
+use Rattle.law_redo.proofs.OneAfter.{block_after, groups_keep, stays}
+use Rattle.law_redo.proofs.Rolling.{rolled_prefix}
 use Rattle.rb_cache.specs.OnDisk.{Later, OnDisk}
 use Rattle.rb_twin.specs.Twins.{home, twin_gate}
 use Rattle.rb_cache.proofs.Steps.{later_joined, on_disk_later}

@@ -12,9 +12,9 @@ use Rattle.rb_layout.specs.declared.layout.Layout.{Layout}
 use Rattle.rb_cache.proofs.Parts.{gate_behind, home_behind}
 use Rattle.rb_control.specs.Heads.{head_of, IsHead}
 use Rattle.rb_log.specs.Slots.{SameOutside, SameSlots}
-use Rattle.rb_roll.specs.Rolled.{rolled}
-use Rattle.rb_roll.proofs.Heads.{rolled_head}
-use Rattle.rb_roll.proofs.Rolling.{no_lower, rolled_high}
+use Rattle.law_redo.specs.Rolled.{rolled}
+use Rattle.law_redo.proofs.Heads.{rolled_head}
+use Rattle.law_redo.proofs.Rolling.{no_lower, rolled_high}
 use Rattle.rb_log.specs.GroupSlots.{GroupsAre}
 use Rattle.rb_twin.specs.Twins.{kept, twin_gate, IsTwin}
 use Rattle.rb_twin.specs.TwinLaws.{kept_shut}

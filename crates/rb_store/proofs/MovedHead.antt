@@ -20,7 +20,7 @@ use Rattle.rb_layout.specs.declared.layout.Layout.{Layout}
 use Rattle.rb_log.specs.GroupLaws.{few_groups, same_units_log, slot_below, slot_moved}
 use Rattle.rb_log.specs.GroupSlots.{GroupsAre}
 use Rattle.rb_log.specs.Slots.{gate_of, head_at, slot_at, slot_of}
-use Rattle.rb_roll.specs.Rolled.{rolled}
+use Rattle.law_redo.specs.Rolled.{rolled}
 use Rattle.rb_cache.specs.declared.frame.Frame.{Frame}
 use Rattle.rb_cache.specs.Frames.{seen, AreClean, NoneDirty}
 use Rattle.rb_twin.specs.TwinLaws.{kept_shut}

@@ -17,8 +17,8 @@ use Rattle.rb_layout.specs.Regions.{HasIdentity, block_count, block_offset, file
 use Rattle.rb_layout.specs.declared.layout.Head.{Head}
 use Rattle.rb_layout.specs.declared.layout.Layout.{Layout}
 use Rattle.rb_log.specs.GroupSlots.{GroupsAre}
-use Rattle.rb_roll.specs.Rolled.{rolled}
-use Rattle.rb_roll.proofs.Heads.{rolled_head}
+use Rattle.law_redo.specs.Rolled.{rolled}
+use Rattle.law_redo.proofs.Heads.{rolled_head}
 use Rattle.rb_twin.specs.Batches.{Image, batch_in, with_batch}
 use Rattle.rb_twin.specs.TwinLaws.{kept_shut}
 use Rattle.rb_twin.specs.Twins.{home, kept, twin_area, twin_gate, IsTwin, Repaired}

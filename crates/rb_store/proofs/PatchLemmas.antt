@@ -9,8 +9,8 @@ use Rattle.rb_disk.specs.declared.disk.Disk.{Ghosts}
 use Rattle.rb_layout.specs.Regions.{block_count}
 use Rattle.rb_layout.specs.declared.layout.Head.{Head}
 use Rattle.rb_layout.specs.declared.layout.Layout.{Layout}
-use Rattle.rb_roll.specs.Rolled.{after_block, has_block, step}
-use Rattle.rb_roll.proofs.Rolling.{rolled_again}
+use Rattle.law_redo.specs.Rolled.{after_block, has_block, step}
+use Rattle.law_redo.proofs.Rolling.{rolled_again}
 use Rattle.rb_cache.specs.Frames.{seen, AreClean}
 use Rattle.rb_cache.specs.OnDisk.{IsCalm, Later, OnDisk}
 use Rattle.rb_log.specs.GroupSlots.{GroupsAre}

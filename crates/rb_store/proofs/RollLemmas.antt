@@ -6,8 +6,8 @@ use Rattle.rb_base.specs.Moments.{begun, joined, weaker}
 use Rattle.rb_disk.specs.declared.disk.Disk.{Ghosts}
 use Rattle.rb_layout.specs.Regions.{block_count}
 use Rattle.rb_layout.specs.declared.layout.Layout.{Layout}
-use Rattle.rb_roll.specs.Rolled.{rolled, step}
-use Rattle.rb_roll.proofs.Rolling.{rolled_joined}
+use Rattle.law_redo.specs.Rolled.{rolled, step}
+use Rattle.law_redo.proofs.Rolling.{rolled_joined}
 use Rattle.rb_cache.specs.Frames.{seen, AreClean}
 use Rattle.rb_cache.specs.OnDisk.{IsCalm, Later, OnDisk}
 use Rattle.rb_log.specs.GroupSlots.{GroupsAre}

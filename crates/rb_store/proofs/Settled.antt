@@ -13,7 +13,7 @@ use Rattle.rb_disk.specs.declared.disk.Disk.{Ghosts}
 use Rattle.rb_layout.specs.Regions.{block_count, file_length, shape_of}
 use Rattle.rb_layout.specs.declared.layout.Head.{Head}
 use Rattle.rb_layout.specs.declared.layout.Layout.{Layout}
-use Rattle.rb_roll.specs.Rolled.{rolled}
+use Rattle.law_redo.specs.Rolled.{rolled}
 use Rattle.rb_cache.specs.OnDisk.{Later, OnDisk}
 use Rattle.rb_log.specs.GroupSlots.{GroupsAre}
 use Rattle.rb_twin.specs.Twins.{twin_gate}

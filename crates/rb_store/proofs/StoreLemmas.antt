@@ -18,9 +18,9 @@ use Rattle.rb_disk.specs.Ranges.{SamePart}
 use Rattle.rb_layout.specs.Regions.{block_count, block_offset, file_length, log_offset, shape_of}
 use Rattle.rb_layout.specs.declared.layout.Head.{Head}
 use Rattle.rb_layout.specs.declared.layout.Layout.{Layout}
-use Rattle.rb_roll.specs.Rolled.{after_block, rolled, step}
-use Rattle.rb_roll.proofs.OneAfter.{block_after, stays}
-use Rattle.rb_roll.proofs.Rolling.{rolled_high}
+use Rattle.law_redo.specs.Rolled.{after_block, rolled, step}
+use Rattle.law_redo.proofs.OneAfter.{block_after, stays}
+use Rattle.law_redo.proofs.Rolling.{rolled_high}
 use Rattle.rb_cache.specs.declared.frame.Frame.{Frame}
 use Rattle.rb_cache.specs.Frames.{seen}
 use Rattle.rb_cache.specs.OnDisk.{IsCalm}

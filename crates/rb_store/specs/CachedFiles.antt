@@ -13,7 +13,7 @@ use Rattle.rb_log.specs.GroupSlots.{IsLoggable, LogState}
 use Rattle.rb_log.specs.Slots.{gate_of}
 use Rattle.rb_twin.specs.Batches.{Image}
 use Rattle.rb_twin.specs.Twins.{TwinState}
-use Rattle.rb_roll.specs.Rolled.{rolled, step}
+use Rattle.law_redo.specs.Rolled.{rolled, step}
 use Rattle.rb_cache.specs.declared.frame.Frame.{Frame}
 use Rattle.rb_cache.specs.Frames.{seen, AreClean}
 use Rattle.rb_cache.specs.OnDisk.{IsCalm, Later, OnDisk}

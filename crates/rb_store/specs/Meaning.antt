@@ -8,7 +8,7 @@ use Rattle.rb_control.specs.Heads.{head_of}
 use Rattle.rb_layout.specs.Regions.{HasIdentity, block_count, file_version, shape_of}
 use Rattle.rb_layout.specs.declared.layout.Head.{Head}
 use Rattle.rb_layout.specs.declared.layout.Layout.{Layout}
-use Rattle.rb_roll.specs.Rolled.{rolled}
+use Rattle.law_redo.specs.Rolled.{rolled}
 use Rattle.rb_log.specs.GroupSlots.{GroupsAre}
 use Rattle.rb_twin.specs.Twins.{home, kept, IsTwin}
 

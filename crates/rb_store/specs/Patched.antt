@@ -3,7 +3,7 @@ use Rattle.std.specs.Prelude.{◌≡◌, ℕ, ◌<◌, if◌then◌else◌, List
 use Rattle.rb_base.specs.Groups.{Patch}
 use Rattle.rb_disk.specs.declared.disk.Disk.{Ghosts}
 use Rattle.rb_layout.specs.Regions.{block_count}
-use Rattle.rb_roll.specs.Rolled.{has_block, rolled, step}
+use Rattle.law_redo.specs.Rolled.{has_block, rolled, step}
 use Rattle.rb_cache.specs.Frames.{seen}
 use Rattle.rb_log.specs.GroupSlots.{GroupsAre}
 use Rattle.rb_store.specs.CachedFiles.{CachedState, IsCachedMemory, Done, FlushesFull, Keeps, Leaving, RollsTo}

@@ -11,7 +11,7 @@ ghost use Rattle.rb_disk.specs.DiskModel.{Only};
 ghost use Rattle.rb_disk.specs.Moments.{Leaves};
 ghost use Rattle.rb_disk.specs.Ranges.{SameBut};
 ghost use Rattle.rb_layout.specs.Regions.{block_count, file_length, log_offset, shape_of};
-ghost use Rattle.rb_roll.specs.Rolled.{step};
+ghost use Rattle.law_redo.specs.Rolled.{step};
 ghost use Rattle.rb_cache.specs.declared.frame.Frame.{Frame};
 ghost use Rattle.rb_cache.specs.Frames.{seen, AreClean, NoneDirty, has_number, numbers_of};
 ghost use Rattle.rb_cache.specs.OnDisk.{IsCalm};

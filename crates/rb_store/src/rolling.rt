@@ -5,7 +5,7 @@ ghost use Rattle.rb_base.specs.Blocks.{AreWithin};
 ghost use Rattle.rb_base.specs.Counts.{IsCounted};
 ghost use Rattle.rb_base.specs.Groups.{Patch};
 ghost use Rattle.rb_layout.specs.Regions.{block_count, shape_of};
-ghost use Rattle.rb_roll.specs.Rolled.{rolled};
+ghost use Rattle.law_redo.specs.Rolled.{rolled};
 ghost use Rattle.rb_cache.specs.Frames.{seen, AreClean};
 ghost use Rattle.rb_cache.specs.OnDisk.{IsCalm};
 ghost use Rattle.rb_log.specs.GroupSlots.{GroupsAre};

@@ -2,7 +2,7 @@ use Rattle.std.proofs.Common.{◌≡◌, ℕ, ◌+◌, ◌==◌, Bool, true, fal
 use Rattle.std.proofs.lemmas.List.{take_more}
 use Rattle.rb_base.specs.Blocks.{written_to}
 use Rattle.rb_base.specs.Groups.{Patch, patch}
-use Rattle.rb_roll.specs.Rolled.{has_block}
+use Rattle.law_redo.specs.Rolled.{has_block}
 use Rattle.rb_cache.proofs.frame.write_patches.Goals as goal
 
 written_more : (which : ℕ) (ps : List Patch) (p : Patch) (x : List ℕ) → written_to which (ps ++ p ∷ []) x ≡ written_to which (p ∷ []) (written_to which ps x)

@@ -1,7 +1,7 @@
 use Rattle.std.proofs.Common.{◌≡◌, length, take}
 use Rattle.rb_base.specs.Blocks.{written_to}
 use Rattle.rb_base.specs.declared.sizes.TheConstants.{UNIT}
-use Rattle.rb_roll.specs.Rolled.{has_block}
+use Rattle.law_redo.specs.Rolled.{has_block}
 use Rattle.rb_cache.proofs.frame.write_patches.Given as goal
 
 abbrev pub invariant-loop-place : goal.invariant-loop-place

@@ -4,11 +4,11 @@ use Rattle.rb_base.specs.declared.shape.Shape.{Shape}
 use Rattle.rb_cr.specs.Faults.{Because, is_failed, is_fault}
 use Rattle.rb_cr.specs.Late.{IsFresh}
 use Rattle.rb_cr.specs.Scratches.{scratch_home}
-use Rattle.rb_rebuild.specs.Chains.{Counted}
-use Rattle.rb_rebuild.specs.Copies.{Copied}
-use Rattle.rb_rebuild.specs.Reading.{History, Reading, Worn}
-use Rattle.rb_standing.specs.Standing.{env_of, homes_of}
-use Rattle.rb_walk.specs.Walk.{Env, Home}
+use Rattle.law_read.specs.Chains.{Counted}
+use Rattle.law_read.specs.Copies.{Copied}
+use Rattle.law_read.specs.Reading.{History, Reading, Worn}
+use Rattle.law_blocks.specs.Standing.{env_of, homes_of}
+use Rattle.law_home.specs.Walk.{Env, Home}
 use Rattle.rb_cr.proofs.Homes.{both, env_stays, home_stays}
 use Rattle.rb_cr.specs.declared.scratch.Snapshot.{Snapshot}
 use Rattle.rb_cr.specs.declared.watch.Watch.{Watch}

@@ -1,7 +1,7 @@
 use Rattle.std.proofs.Common.{rules, ◌≡◌, inl, length, get_or, Some, ◌∙◌, ap, sym}
 use Rattle.rb_cr.specs.Records.{walk_found}
 use Rattle.rb_itl.specs.Entries.{free_entry as zero_entry}
-use Rattle.rb_standing.specs.Says.{place_of}
+use Rattle.law_blocks.specs.Says.{place_of}
 use Rattle.rb_cr.proofs.Stepping.{noted, took, unfit}
 use Rattle.rb_cr.proofs.chains.newest_back.Goals as goal
 

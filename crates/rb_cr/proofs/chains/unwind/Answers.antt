@@ -5,12 +5,12 @@ use Rattle.rb_cr.specs.Late.{SeesStep}
 use Rattle.rb_cr.specs.Parts.{Took}
 use Rattle.rb_cr.specs.Reads.{more_reads}
 use Rattle.rb_cr.specs.Scratches.{scratch_home}
-use Rattle.rb_rebuild.specs.Keeping.{kept_room, Kept}
-use Rattle.rb_rebuild.specs.Late.{touched_after, touches}
-use Rattle.rb_walk.specs.Walk.{entry_at}
+use Rattle.law_read.specs.Keeping.{kept_room, Kept}
+use Rattle.law_read.specs.Late.{touched_after, touches}
+use Rattle.law_home.specs.Walk.{entry_at}
 use Rattle.rb_cr.proofs.Rooms.{room_fails}
-use Rattle.rb_rebuild.proofs.Keeping.{kept_on}
-use Rattle.rb_rebuild.proofs.Unwinding.{step_on, unwound_more}
+use Rattle.law_read.proofs.Keeping.{kept_on}
+use Rattle.law_read.proofs.Unwinding.{step_on, unwound_more}
 use Rattle.rb_cr.proofs.Seeing.{or_later, touched_on}
 use Rattle.rb_cr.proofs.chains.unwind.Goals as goal
 

@@ -2,9 +2,9 @@ use Rattle.std.proofs.Common.{◌≡◌, ◌||◌, ◌+◌, ◌-◌, ℕ, Some, 
 use Rattle.rb_cr.specs.Reads.{Reads}
 use Rattle.rb_cr.specs.Scratches.{scratch_home}
 use Rattle.rb_cr.specs.Watches.{Stays}
-use Rattle.rb_rebuild.specs.Chains.{unwound}
-use Rattle.rb_rebuild.specs.Keeping.{kept_after}
-use Rattle.rb_rebuild.specs.Late.{touched_after}
+use Rattle.law_read.specs.Chains.{unwound}
+use Rattle.law_read.specs.Keeping.{kept_after}
+use Rattle.law_read.specs.Late.{touched_after}
 use Rattle.rb_cr.proofs.chains.unwind.Given as goal
 
 abbrev pub invariant-loop-k : goal.invariant-loop-k

@@ -2,9 +2,9 @@ use Rattle.std.proofs.Common.{rules, ◌≡◌, ℕ, length, inl, inr, ◌∙◌
 use Rattle.std.proofs.lemmas.Bool.{cases_eq, cases_lt}
 use Rattle.std.proofs.lemmas.List.{get_or_past, length-map}
 use Rattle.rb_cr.specs.Scratches.{scratch_home}
-use Rattle.rb_rebuild.specs.Chains.{is_own}
-use Rattle.rb_standing.specs.Says.{walk_entry}
-use Rattle.rb_walk.specs.Walk.{entry_at, free_entry}
+use Rattle.law_read.specs.Chains.{is_own}
+use Rattle.law_blocks.specs.Says.{walk_entry}
+use Rattle.law_home.specs.Walk.{entry_at, free_entry}
 use Rattle.rb_cr.proofs.Tops.{entry_is}
 use Rattle.rb_cr.proofs.copies.has_entry.Goals as goal
 

@@ -1,8 +1,8 @@
 use Rattle.std.proofs.Common.{◌≡◌, ◌<◌, ℕ, false}
 use Rattle.rb_base.specs.declared.shape.Shape.{Shape}
 use Rattle.rb_cr.specs.Scratches.{scratch_home}
-use Rattle.rb_rebuild.specs.Chains.{is_own}
-use Rattle.rb_walk.specs.Walk.{entry_at}
+use Rattle.law_read.specs.Chains.{is_own}
+use Rattle.law_home.specs.Walk.{entry_at}
 use Rattle.rb_cr.proofs.copies.has_entry.Given as goal
 
 abbrev pub invariant-loop-i : goal.invariant-loop-i

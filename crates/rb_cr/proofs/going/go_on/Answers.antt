@@ -8,10 +8,10 @@ use Rattle.rb_cr.specs.declared.faults.CrFault.{CrFault}
 use Rattle.rb_cr.specs.declared.faults.CrFault.TheVariants as faults
 use Rattle.rb_cr.specs.declared.visible.Top.{Top}
 use Rattle.rb_cr.specs.declared.visible.Top.TheVariants as tops
-use Rattle.rb_rebuild.specs.Reading.{up_to}
+use Rattle.law_read.specs.Reading.{up_to}
 use Rattle.rb_cr.proofs.Erring.{handed_on}
 use Rattle.rb_cr.proofs.Further.{room, went_failed, went_nowhere, went_on, went_worn}
-use Rattle.rb_rebuild.proofs.Copying.{copy_begins}
+use Rattle.law_read.proofs.Copying.{copy_begins}
 use Rattle.rb_cr.proofs.going.go_on.Goals as goal
 
 pub returns-in_err-greatest-clause-told : goal.returns-in_err-greatest-clause-told

@@ -4,8 +4,8 @@ use Rattle.rb_base.specs.Logs.{more_logs}
 use Rattle.rb_base.specs.declared.shape.Shape.{Shape}
 use Rattle.rb_cr.specs.Builds.{IsHomeRead}
 use Rattle.rb_cr.specs.Faults.{is_failed}
-use Rattle.rb_rebuild.proofs.Watching.{quiet_late}
-use Rattle.rb_standing.specs.Standing.{env_of, homes_of}
+use Rattle.law_read.proofs.Watching.{quiet_late}
+use Rattle.law_blocks.specs.Standing.{env_of, homes_of}
 use Rattle.rb_cr.proofs.late.changed_after.Goals as goal
 
 -- the block that is read is the key's

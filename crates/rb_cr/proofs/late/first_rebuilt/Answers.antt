@@ -2,7 +2,7 @@ use Rattle.std.proofs.Common.{◌∙◌, Option, Result, IfErr, ℕ, sym, ap, su
 use Rattle.rb_cr.specs.Builds.{IsHomeOld}
 use Rattle.rb_cr.specs.declared.faults.CrFault.{CrFault}
 use Rattle.rb_cr.specs.declared.watch.Watch.{Watch}
-use Rattle.rb_standing.specs.Standing.{env_of, homes_of}
+use Rattle.law_blocks.specs.Standing.{env_of, homes_of}
 use Rattle.rb_cr.proofs.Erring.{handed_on}
 use Rattle.rb_cr.proofs.Seeing.{by_nobody}
 use Rattle.rb_cr.proofs.late.first_rebuilt.Goals as goal

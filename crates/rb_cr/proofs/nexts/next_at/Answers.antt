@@ -8,9 +8,9 @@ use Rattle.rb_cr.specs.Faults.{is_failed, is_fault}
 use Rattle.rb_cr.specs.Rows.{block_rows}
 use Rattle.rb_cr.specs.declared.faults.CrFault.{CrFault}
 use Rattle.rb_cr.specs.declared.faults.CrFault.TheVariants as faults
-use Rattle.rb_rebuild.specs.Reading.{History}
-use Rattle.rb_rebuild.proofs.Quiet.{quiet_reads}
-use Rattle.rb_standing.specs.Standing.{env_of, homes_of}
+use Rattle.law_read.specs.Reading.{History}
+use Rattle.law_read.proofs.Quiet.{quiet_reads}
+use Rattle.law_blocks.specs.Standing.{env_of, homes_of}
 use Rattle.rb_cr.proofs.Erring.{handed_on}
 use Rattle.rb_cr.proofs.Homes.{carried}
 use Rattle.rb_cr.proofs.Shown.{next_same}

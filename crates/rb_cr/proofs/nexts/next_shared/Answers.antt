@@ -1,8 +1,8 @@
 use Rattle.std.proofs.Common.{map, sym, ◌∙◌, arith}
 use Rattle.rb_cr.specs.Clauses.{answer_to}
 use Rattle.rb_cr.specs.Scratches.{shown_by}
-use Rattle.rb_rebuild.specs.Reading.{rows_in}
-use Rattle.rb_standing.specs.Says.{walk_cell}
+use Rattle.law_read.specs.Reading.{rows_in}
+use Rattle.law_blocks.specs.Says.{walk_cell}
 use Rattle.rb_cr.proofs.Firsts.{turns_there}
 use Rattle.rb_cr.proofs.Sharing.{kept_shows}
 use Rattle.rb_cr.proofs.Shown.{next_same}

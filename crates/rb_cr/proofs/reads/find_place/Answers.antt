@@ -2,8 +2,8 @@ use Rattle.std.proofs.Common.{◌≡◌, ◌<◌, ℕ, List, Option, Some, None,
 use Rattle.rb_base.specs.Blocks.{block_of, header_block}
 use Rattle.rb_base.specs.Logs.{load_logs}
 use Rattle.rb_segment.specs.Header.{Segment, header_of, record_in}
-use Rattle.rb_standing.specs.Says.{place_of}
-use Rattle.rb_standing.specs.Standing.{segments_of}
+use Rattle.law_blocks.specs.Says.{place_of}
+use Rattle.law_blocks.specs.Standing.{segments_of}
 use Rattle.rb_undoblock.specs.Undo.{no_undo}
 use Rattle.rb_cr.proofs.Beyond.{header_read}
 use Rattle.rb_cr.proofs.Extents.{none_behind}

@@ -1,8 +1,8 @@
 use Rattle.std.proofs.Common.{◌≡◌, ◌<◌, ℕ, List, [], true, false, Option, Some, IfSome, get_or, refl, ◌∙◌, ap, subst}
 use Rattle.rb_base.specs.Logs.{more_logs}
 use Rattle.rb_segment.specs.Header.{record_in}
-use Rattle.rb_standing.specs.Says.{place_of}
-use Rattle.rb_standing.specs.Standing.{segments_of}
+use Rattle.law_blocks.specs.Says.{place_of}
+use Rattle.law_blocks.specs.Standing.{segments_of}
 use Rattle.rb_undoblock.specs.Undo.{no_undo}
 use Rattle.rb_cr.proofs.Found.{found_is, gone_is}
 use Rattle.rb_cr.proofs.reads.read_record.Goals as goal

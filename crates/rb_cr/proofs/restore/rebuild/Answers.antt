@@ -1,4 +1,4 @@
-use Rattle.rb_rebuild.proofs.Copying.{on_ok}
+use Rattle.law_read.proofs.Copying.{on_ok}
 use Rattle.rb_cr.proofs.restore.rebuild.Goals as goal
 
 pub returns-clause-rows : goal.returns-clause-rows

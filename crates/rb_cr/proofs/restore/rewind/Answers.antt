@@ -6,7 +6,7 @@ use Rattle.rb_cr.specs.Parts.{Highest, Rewound}
 use Rattle.rb_cr.specs.Reads.{more_reads, no_read}
 use Rattle.rb_cr.specs.Scratches.{scratch_home}
 use Rattle.rb_cr.specs.declared.faults.CrFault.{CrFault}
-use Rattle.rb_rebuild.specs.Late.{seen_at}
+use Rattle.law_read.specs.Late.{seen_at}
 use Rattle.rb_cr.proofs.Erring.{handed_on}
 use Rattle.rb_cr.proofs.Rebuilding.{at_first, falls, goes_after, goes_nowhere, goes_spent, rewound_done, rewound_over, rewound_worn, goes_on}
 use Rattle.rb_cr.proofs.Seeing.{seen_done, seen_first, seen_on}

@@ -3,10 +3,10 @@ use Rattle.rb_cr.specs.Clauses.{GoesOn, HasRoom}
 use Rattle.rb_cr.specs.Late.{IsFresh}
 use Rattle.rb_cr.specs.Reads.{Reads}
 use Rattle.rb_cr.specs.Scratches.{scratch_home}
-use Rattle.rb_rebuild.specs.Keeping.{Kept}
-use Rattle.rb_rebuild.specs.Reading.{flat}
-use Rattle.rb_rebuild.specs.Turns.{Starts, Peeled, Watched}
-use Rattle.rb_walk.specs.Walk.{Rows, Commit}
+use Rattle.law_read.specs.Keeping.{Kept}
+use Rattle.law_read.specs.Reading.{flat}
+use Rattle.law_read.specs.Turns.{Starts, Peeled, Watched}
+use Rattle.law_home.specs.Walk.{Rows, Commit}
 use Rattle.rb_cr.proofs.restore.rewind.Given as goal
 
 abbrev pub invariant-loop-top : goal.invariant-loop-top

@@ -5,7 +5,7 @@ use Rattle.rb_cr.specs.Late.{SeesFirst}
 use Rattle.rb_cr.specs.Parts.{Built, Undone}
 use Rattle.rb_cr.specs.Scratches.{scratch_home}
 use Rattle.rb_cr.specs.declared.faults.CrFault.{CrFault}
-use Rattle.rb_rebuild.specs.Reading.{History}
+use Rattle.law_read.specs.Reading.{History}
 use Rattle.rb_cr.proofs.Erring.{handed_on}
 use Rattle.rb_cr.proofs.Rebuilding.{built_failed, starts, few_more, built, undone}
 use Rattle.rb_cr.proofs.restore.take_all_back.Given.{Over}

@@ -7,10 +7,10 @@ use Rattle.rb_cr.specs.Parts.{Undone}
 use Rattle.rb_cr.specs.Reads.{more_reads, no_read}
 use Rattle.rb_cr.specs.Scratches.{scratch_home}
 use Rattle.rb_cr.specs.declared.faults.CrFault.{CrFault}
-use Rattle.rb_standing.specs.Says.{walk_entry}
+use Rattle.law_blocks.specs.Says.{walk_entry}
 use Rattle.rb_cr.proofs.Erring.{handed_on}
 use Rattle.rb_cr.proofs.Rebuilding.{goes_after, goes_nowhere, one_more, undone_failed, undone_all}
-use Rattle.rb_rebuild.proofs.Undoing.{starts_running}
+use Rattle.law_read.proofs.Undoing.{starts_running}
 use Rattle.rb_cr.proofs.restore.undo_active.Goals as goal
 
 pub loop-i-init : goal.loop-i-init

@@ -3,10 +3,10 @@ use Rattle.rb_cr.specs.Clauses.{GoesOn, HasRoom}
 use Rattle.rb_cr.specs.Reads.{Reads}
 use Rattle.rb_cr.specs.Scratches.{scratch_home}
 use Rattle.rb_cr.specs.Watches.{Stays}
-use Rattle.rb_rebuild.specs.Keeping.{Kept}
-use Rattle.rb_rebuild.specs.Reading.{Reader, Runs}
-use Rattle.rb_rebuild.specs.Turns.{Running}
-use Rattle.rb_walk.specs.Walk.{Rows, Commit, Change, own}
+use Rattle.law_read.specs.Keeping.{Kept}
+use Rattle.law_read.specs.Reading.{Reader, Runs}
+use Rattle.law_read.specs.Turns.{Running}
+use Rattle.law_home.specs.Walk.{Rows, Commit, Change, own}
 use Rattle.rb_cr.proofs.restore.undo_active.Given as goal
 
 abbrev pub invariant-loop-i : goal.invariant-loop-i

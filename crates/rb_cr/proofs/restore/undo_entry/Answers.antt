@@ -4,9 +4,9 @@ use Rattle.rb_cr.specs.Clauses.{Spends}
 use Rattle.rb_cr.specs.Visible.{ActiveIs}
 use Rattle.rb_cr.specs.Scratches.{scratch_home}
 use Rattle.rb_itl.specs.Entries.{free_entry as zero_entry}
-use Rattle.rb_standing.specs.Says.{walk_entry}
-use Rattle.rb_walk.specs.Kinds.{Entry}
-use Rattle.rb_walk.specs.Walk.{entry_at}
+use Rattle.law_blocks.specs.Says.{walk_entry}
+use Rattle.law_home.specs.Kinds.{Entry}
+use Rattle.law_home.specs.Walk.{entry_at}
 use Rattle.rb_cr.proofs.Rebuilding.{goes_spent, passed_quiet, passed_back}
 use Rattle.rb_cr.proofs.Tops.{entry_is}
 use Rattle.rb_cr.proofs.restore.undo_entry.Goals as goal

@@ -4,8 +4,8 @@ use Rattle.rb_cr.specs.Records.{row_items}
 use Rattle.rb_cr.specs.Rows.{IsFound, IsWanted, Reaches, kept_key}
 use Rattle.rb_cr.specs.Scratches.{shown_over}
 use Rattle.rb_heap.specs.Homes.{empty_cell}
-use Rattle.rb_rebuild.specs.Keeping.{Kept}
-use Rattle.rb_walk.specs.Walk.{Rows}
+use Rattle.law_read.specs.Keeping.{Kept}
+use Rattle.law_home.specs.Walk.{Rows}
 use Rattle.rb_cr.proofs.Overlays.{key_there}
 use Rattle.rb_cr.proofs.rows.next_over.Goals as goal
 

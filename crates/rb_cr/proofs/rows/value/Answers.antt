@@ -1,7 +1,7 @@
 use Rattle.std.proofs.Common.{◌∙◌, sym, ap, map}
 use Rattle.rb_cr.specs.Records.{kept_items}
-use Rattle.rb_rebuild.specs.Reading.{rows_in}
-use Rattle.rb_standing.specs.Says.{walk_cell}
+use Rattle.law_read.specs.Reading.{rows_in}
+use Rattle.law_blocks.specs.Says.{walk_cell}
 use Rattle.rb_cr.proofs.Overlays.{chosen, over_kept}
 use Rattle.rb_cr.proofs.rows.value.Goals as goal
 

@@ -1,6 +1,6 @@
 use Rattle.std.proofs.Common.{◌≡◌, drop, map}
-use Rattle.rb_rebuild.specs.Reading.{rows_in}
-use Rattle.rb_standing.specs.Says.{walk_cell}
+use Rattle.law_read.specs.Reading.{rows_in}
+use Rattle.law_blocks.specs.Says.{walk_cell}
 use Rattle.rb_cr.proofs.rows.value_of.Given as goal
 
 abbrev pub invariant-loop-i : goal.invariant-loop-i

@@ -2,9 +2,9 @@ use Rattle.std.proofs.Common.{◌≡◌, ◌∙◌, ℕ, List, map, set, ap}
 use Rattle.std.proofs.lemmas.List.{map-set}
 use Rattle.rb_cell.specs.declared.cell.Cell as cells
 use Rattle.rb_itl.specs.declared.slots.Entry as entries
-use Rattle.rb_standing.specs.Says.{walk_entry, walk_cell}
-use Rattle.rb_walk.specs.Kinds.{Entry, Cell}
-use Rattle.rb_walk.specs.Walk.{Home}
+use Rattle.law_blocks.specs.Says.{walk_entry, walk_cell}
+use Rattle.law_home.specs.Kinds.{Entry, Cell}
+use Rattle.law_home.specs.Walk.{Home}
 use Rattle.rb_cr.proofs.scratch.back.Goals as goal
 
 home_is : (n : ℕ) (es es2 : List Entry) (xs xs2 : List Cell) → es ≡ es2 → xs ≡ xs2 → (let h : Home = record { block = n; entries = es; cells = xs } in h) ≡ record { block = n; entries = es2; cells = xs2 }

@@ -6,10 +6,10 @@ use Rattle.rb_cr.specs.Records.{maker_of, names_at, record_of}
 use Rattle.rb_cr.specs.Scratches.{scratch_home}
 use Rattle.rb_cr.specs.declared.records.SegmentRecord.{SegmentRecord}
 use Rattle.rb_cr.specs.declared.scratch.Scratch.{Scratch}
-use Rattle.rb_rebuild.specs.Chains.{fits, leads_back, names, same_xid}
-use Rattle.rb_standing.specs.Says.{walk_cell, walk_entry}
-use Rattle.rb_walk.specs.Kinds.{Entry}
-use Rattle.rb_walk.specs.Walk.{entry_at}
+use Rattle.law_read.specs.Chains.{fits, leads_back, names, same_xid}
+use Rattle.law_blocks.specs.Says.{walk_cell, walk_entry}
+use Rattle.law_home.specs.Kinds.{Entry}
+use Rattle.law_home.specs.Walk.{entry_at}
 use Rattle.rb_cr.proofs.Tops.{entry_is}
 use Rattle.rb_itl.specs.declared.slots.Entry as entries
 use Rattle.rb_itl.specs.Entries.{entry_of, free_entry as zero_entry}

@@ -1,7 +1,7 @@
 use Rattle.std.proofs.Common.{◌≡◌, ◌≢◌, ◌==◌, ◌∙◌, true, false, refl, sym, arith}
 use Rattle.std.proofs.lemmas.Bool.Decides.{nat_tests}
-use Rattle.rb_rebuild.specs.Chains.{is_own}
-use Rattle.rb_standing.specs.Says.{walk_entry}
+use Rattle.law_read.specs.Chains.{is_own}
+use Rattle.law_blocks.specs.Says.{walk_entry}
 use Rattle.rb_cr.proofs.scratch.leads_back.Goals as goal
 
 pub returns-then-is_own : goal.returns-then-is_own

@@ -3,7 +3,7 @@ use Rattle.rb_base.specs.declared.shape.Shape.{Shape}
 use Rattle.rb_cr.specs.Records.{record_of}
 use Rattle.rb_cr.specs.declared.records.SegmentRecord.{SegmentRecord}
 use Rattle.rb_cr.specs.declared.watch.Watch.{Watch}
-use Rattle.rb_rebuild.specs.Late.{touches}
+use Rattle.law_read.specs.Late.{touches}
 use Rattle.rb_cr.proofs.scratch.take_back.Goals as goal
 
 pub returns-then-wanted-clause-home : goal.returns-then-wanted-clause-home

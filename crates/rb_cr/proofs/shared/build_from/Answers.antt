@@ -5,7 +5,7 @@ use Rattle.rb_cr.specs.Copies.{BuiltAt, IsReadWith, HasNoneIn}
 use Rattle.rb_cr.specs.Faults.{is_failed}
 use Rattle.rb_cr.specs.Scratches.{scratch_home}
 use Rattle.rb_cr.specs.declared.faults.CrFault.{CrFault}
-use Rattle.rb_rebuild.specs.Reading.{History}
+use Rattle.law_read.specs.Reading.{History}
 use Rattle.rb_cr.proofs.Erring.{handed_on}
 use Rattle.rb_cr.proofs.Homes.{carried}
 use Rattle.rb_cr.proofs.Sharing.{built_on, built_worn, found_is, goes, not_over, taken}

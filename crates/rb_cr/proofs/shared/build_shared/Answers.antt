@@ -3,9 +3,9 @@ use Rattle.rb_copies.specs.Copies.{Serves}
 use Rattle.rb_cr.specs.Copies.{BeginsAt, IsFree, IsMade, IsWhole, home_kept}
 use Rattle.rb_cr.specs.Scratches.{scratch_home}
 use Rattle.rb_cr.specs.declared.faults.CrFault.{CrFault}
-use Rattle.rb_rebuild.specs.Copies.{Copied}
-use Rattle.rb_rebuild.specs.Reading.{count_above}
-use Rattle.rb_standing.specs.Standing.{env_of}
+use Rattle.law_read.specs.Copies.{Copied}
+use Rattle.law_read.specs.Reading.{count_above}
+use Rattle.law_blocks.specs.Standing.{env_of}
 use Rattle.rb_cr.proofs.Erring.{handed_on}
 use Rattle.rb_cr.proofs.Firsts.{begins_at, first_is, if_none, if_some, keeps_put, least_is, not_first, passes, put_is, unserved}
 use Rattle.rb_cr.proofs.shared.build_shared.Goals as goal

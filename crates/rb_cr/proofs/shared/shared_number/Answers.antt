@@ -1,8 +1,8 @@
 use Rattle.std.proofs.Common.{rules, ◌≡◌, ℕ, [], Ok, true, false}
 use Rattle.rb_base.specs.Logs.{load_logs, more_logs}
 use Rattle.rb_cr.specs.Scratches.{scratch_home}
-use Rattle.rb_standing.specs.Standing.{env_of, homes_of}
-use Rattle.rb_walk.specs.Walk.{Home, entry_at}
+use Rattle.law_blocks.specs.Standing.{env_of, homes_of}
+use Rattle.law_home.specs.Walk.{Home, entry_at}
 use Rattle.rb_cr.proofs.Away.{away_same, none_away}
 use Rattle.rb_cr.proofs.shared.shared_number.Goals as goal
 

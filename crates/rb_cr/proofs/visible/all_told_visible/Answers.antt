@@ -5,9 +5,9 @@ use Rattle.rb_base.specs.declared.shape.Shape.{Shape}
 use Rattle.rb_heap.proofs.Reading.{entries_counted}
 use Rattle.rb_heap.specs.Homes.{home_of}
 use Rattle.rb_itl.specs.declared.slots.Entry.{Entry}
-use Rattle.rb_rebuild.specs.Heights.{AtMost}
-use Rattle.rb_standing.specs.Says.{walk_entry, walk_home}
-use Rattle.rb_walk.specs.Walk.{Env, entry_at, free_entry}
+use Rattle.law_read.specs.Heights.{AtMost}
+use Rattle.law_blocks.specs.Says.{walk_entry, walk_home}
+use Rattle.law_home.specs.Walk.{Env, entry_at, free_entry}
 use Rattle.rb_cr.proofs.EntryBytes.{of_home}
 use Rattle.rb_cr.proofs.visible.all_told_visible.Goals as goal
 

@@ -1,9 +1,9 @@
 use Rattle.std.proofs.Common.{◌<◌, ℕ}
 use Rattle.rb_base.specs.declared.shape.Shape.{Shape}
 use Rattle.rb_heap.specs.Homes.{home_of}
-use Rattle.rb_rebuild.specs.Heights.{AtMost}
-use Rattle.rb_standing.specs.Says.{walk_home}
-use Rattle.rb_walk.specs.Walk.{Env, entry_at}
+use Rattle.law_read.specs.Heights.{AtMost}
+use Rattle.law_blocks.specs.Says.{walk_home}
+use Rattle.law_home.specs.Walk.{Env, entry_at}
 use Rattle.rb_cr.proofs.visible.all_told_visible.Given as goal
 
 abbrev pub invariant-loop-i : goal.invariant-loop-i

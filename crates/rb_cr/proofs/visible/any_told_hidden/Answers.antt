@@ -1,7 +1,7 @@
 use Rattle.std.proofs.Common.{◌<◌, sym, subst, arith}
 use Rattle.rb_itl.specs.declared.slots.Entry.{Entry}
-use Rattle.rb_rebuild.specs.Heights.{AtMost}
-use Rattle.rb_standing.specs.Says.{walk_entry}
+use Rattle.law_read.specs.Heights.{AtMost}
+use Rattle.law_blocks.specs.Says.{walk_entry}
 use Rattle.rb_cr.proofs.EntryBytes.{of_home}
 use Rattle.rb_cr.proofs.visible.any_told_hidden.Goals as goal
 

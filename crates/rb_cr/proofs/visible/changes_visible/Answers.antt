@@ -5,10 +5,10 @@ use Rattle.rb_base.specs.Logs.{load_logs, more_logs}
 use Rattle.rb_cr.proofs.Tops.{still_busy}
 use Rattle.rb_cr.specs.Scratches.{scratch_home}
 use Rattle.rb_heap.specs.Homes.{home_of}
-use Rattle.rb_rebuild.specs.Heights.{AtMost}
-use Rattle.rb_standing.specs.Says.{walk_home}
-use Rattle.rb_standing.specs.Standing.{env_of, homes_of}
-use Rattle.rb_walk.specs.Walk.{Home, entry_at}
+use Rattle.law_read.specs.Heights.{AtMost}
+use Rattle.law_blocks.specs.Says.{walk_home}
+use Rattle.law_blocks.specs.Standing.{env_of, homes_of}
+use Rattle.law_home.specs.Walk.{Home, entry_at}
 use Rattle.rb_cr.proofs.visible.changes_visible.Goals as goal
 
 pub returns-then-all_told_visible-clause-told : goal.returns-then-all_told_visible-clause-told

@@ -5,10 +5,10 @@ use Rattle.rb_cr.specs.Reads.{more_reads}
 use Rattle.rb_cr.specs.Scratches.{scratch_home}
 use Rattle.rb_cr.specs.declared.visible.HighestEntry.{HighestEntry}
 use Rattle.rb_itl.specs.Entries.{free_entry as zero_entry}
-use Rattle.rb_rebuild.specs.Heights.{Numbered}
-use Rattle.rb_standing.specs.Says.{walk_entry}
-use Rattle.rb_walk.specs.Kinds.{Entry}
-use Rattle.rb_walk.specs.Walk.{entry_at}
+use Rattle.law_read.specs.Heights.{Numbered}
+use Rattle.law_blocks.specs.Says.{walk_entry}
+use Rattle.law_home.specs.Kinds.{Entry}
+use Rattle.law_home.specs.Walk.{entry_at}
 use Rattle.rb_cr.proofs.Tops.{entry_is, most_step}
 use Rattle.rb_cr.proofs.visible.greatest.Goals.{then-top-above, else-top-above}
 use Rattle.rb_cr.proofs.visible.greatest.Goals as goal

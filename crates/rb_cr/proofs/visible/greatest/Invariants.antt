@@ -1,8 +1,8 @@
 use Rattle.std.proofs.Common.{◌<◌, ◌≤◌, ℕ, true}
 use Rattle.rb_cr.specs.Reads.{Reads}
 use Rattle.rb_cr.specs.Scratches.{scratch_home}
-use Rattle.rb_rebuild.specs.Heights.{AtMost, Numbered}
-use Rattle.rb_walk.specs.Walk.{entry_at}
+use Rattle.law_read.specs.Heights.{AtMost, Numbered}
+use Rattle.law_home.specs.Walk.{entry_at}
 use Rattle.rb_cr.proofs.visible.greatest.Given as goal
 
 abbrev pub invariant-loop-i : goal.invariant-loop-i

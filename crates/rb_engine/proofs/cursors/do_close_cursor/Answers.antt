@@ -3,16 +3,16 @@ use Rattle.std.proofs.lemmas.Result.{err_from_is_err_and}
 use Rattle.rb_base.specs.Logs.{Laws, no_logs}
 use Rattle.rb_engine.specs.Does.{Does, Goes, IsInStep, Kept, Stands}
 use Rattle.rb_model.specs.Calls as machine
-use Rattle.rb_model.specs.Calls.{Reply, name_tests, early_tests, none_applies}
+use Rattle.rb_model.specs.Calls.{MayAnswer, name_tests, early_tests, none_applies}
 use Rattle.rb_model.specs.Names.{name_text}
 use Rattle.rb_model.specs.NextState as next
 use Rattle.rb_model.specs.NextState.{cursors_of, opened_cursor, without_cursor}
 use Rattle.rb_model.specs.State.{cursor_of}
 use Rattle.rb_model.specs.declared.refusal.Refusal.TheVariants.{NoCursor}
 use Rattle.rb_sessions.specs.Kept.{KeptSession, kept_at, named, with_cursors, without}
-use Rattle.rb_standing.specs.Standing.{env_of}
-use Rattle.rb_views.proofs.Cursors as views
-use Rattle.rb_views.specs.Views.{Remembers}
+use Rattle.law_blocks.specs.Standing.{env_of}
+use Rattle.law_sessions.proofs.Cursors as views
+use Rattle.law_sessions.specs.Views.{Remembers}
 use Rattle.rb_engine.proofs.QueueLemmas.{all_asked}
 use Rattle.rb_engine.proofs.DoesLemmas.{does_cursors, does_refused, does_refused_late, none_of, some_of}
 use Rattle.rb_engine.proofs.StepLemmas.{few_less, fit_at, fit_closed, in_step_moved, queue_moved}
@@ -49,7 +49,7 @@ returns-then-is_none-clause-did g c = λ h st.
     let missing : named name (kept_at c.args.memory.now.sessions c.args.s).cursors ≡ None = ap (λ (l : List KeptSession). named name (kept_at l c.args.s).cursors) (sym sessions) ∙ (sym c.cursor.ensures ∙ none_of c.cursor.result c.is_none.result c.is_none.ensures c.if-is_none.true) in
     let none : cursor_of h c.args.s name ≡ None = (views.named_is h goes.xids (env_of h.shape (s.blocks c.args.store.now)) c.args.s name c.args.memory.now.sessions goes.remembers there.0 there.1).0 missing in
     does_refused_late s (laws_of g) h call NoCursor (record { memory = c.args.memory.now; store = c.args.store.now }) st c.requires.step.going
-    (Reply.later (name_tests h call) (c.in_ok-check_session.ensures.granted h st.knows) refl (rw none refl)) (λ clash. cc)
+    (MayAnswer.later (name_tests h call) (c.in_ok-check_session.ensures.granted h st.knows) refl (rw none refl)) (λ clash. cc)
 
 pub returns-clause-step : goal.returns-clause-step
 returns-clause-step g c =
@@ -83,7 +83,7 @@ returns-clause-did g c = λ h st.
     subst (λ (k : Kept). Does s h call machine.Done (record { memory = k; store = store }) (record { memory = now; store = store })) c.memory.view_is
     (does_cursors s st.told (laws_of g) h call machine.Done c.args.s (without_cursor name (cursors_of h c.args.s)) (record { memory = old; store = store }) (record { memory = now; store = store }) here going
     (there.0, (let n = st.knows.sixteen in omega (arith, there, n)))
-    (Reply.later (name_tests h call) (c.in_ok-check_session.ensures.granted h st.knows) refl (rw its.1 refl)) refl refl (λ s t k a is done. cc) refl refl refl refl refl
+    (MayAnswer.later (name_tests h call) (c.in_ok-check_session.ensures.granted h st.knows) refl (rw its.1 refl)) refl refl (λ s t k a is done. cc) refl refl refl refl refl
     (ap (λ (l : List KeptSession). map (λ k. k.asked) l) c.close_cursor.ensures ∙ all_asked old.sessions (c.args.s - 1) (with_cursors (kept_at old.sessions c.args.s) (without name (kept_at old.sessions c.args.s).cursors)) refl)
     (λ xids stand is. subst (Remembers (next.with_cursors h c.args.s (without_cursor name (cursors_of h c.args.s))) xids (env_of h.shape (s.blocks store))) (sym c.close_cursor.ensures) (views.closed h xids (env_of h.shape (s.blocks store)) old.sessions c.args.s name is there.0 there.1))
     (no_logs s store ((subst (λ (k : Kept). IsInStep s k store) (sym c.memory.view_is) c.requires.step).going (ap (λ (k : Kept). k.stopped) c.memory.view_is ∙ c.in_ok-check_session.ensures.going)))

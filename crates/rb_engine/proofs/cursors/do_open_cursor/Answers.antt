@@ -6,7 +6,7 @@ use Rattle.rb_base.specs.declared.ids.Xid.{Xid}
 use Rattle.rb_base.specs.declared.shape.Shape.{Shape}
 use Rattle.rb_engine.specs.Does.{Does, Goes, IsInStep, Kept, Stands}
 use Rattle.rb_model.specs.Calls as machine
-use Rattle.rb_model.specs.Calls.{Reply, name_tests, early_tests, none_applies}
+use Rattle.rb_model.specs.Calls.{MayAnswer, name_tests, early_tests, none_applies}
 use Rattle.rb_model.specs.Names.{name_text}
 use Rattle.rb_model.specs.NextState as next
 use Rattle.rb_model.specs.NextState.{cursors_of, opened_cursor, without_cursor}
@@ -16,10 +16,10 @@ use Rattle.rb_model.specs.State.{cursor_of, is_table}
 use Rattle.rb_model.specs.declared.refusal.Refusal.TheVariants.{CursorThere, TooManyCursors}
 use Rattle.rb_sessions.specs.Kept.{KeptSession, kept_at, named, with_cursor, with_kept}
 use Rattle.rb_sessions.specs.declared.cursor.Cursor.{Cursor}
-use Rattle.rb_standing.specs.Standing.{env_of}
-use Rattle.rb_views.proofs.Cursors as views
-use Rattle.rb_views.specs.Laws.{cursor_opened}
-use Rattle.rb_views.specs.Views.{Remembers}
+use Rattle.law_blocks.specs.Standing.{env_of}
+use Rattle.law_sessions.proofs.Cursors as views
+use Rattle.law_sessions.specs.Laws.{cursor_opened}
+use Rattle.law_sessions.specs.Views.{Remembers}
 use Rattle.rb_engine.proofs.QueueLemmas.{all_asked}
 use Rattle.rb_engine.proofs.DoesLemmas.{does_cursors, does_refused, does_refused_late, is_some_of, not_some}
 use Rattle.rb_engine.proofs.StepLemmas.{few_less, fit_at, fit_opened, in_step_moved, queue_moved}
@@ -62,7 +62,7 @@ returns-then-is_some-clause-did g c = λ h st.
     let here : named name (kept_at c.args.memory.now.sessions c.args.s).cursors ≡ Some found.0 = ap (λ (l : List KeptSession). named name (kept_at l c.args.s).cursors) (sym sessions) ∙ (sym c.cursor.ensures ∙ found.1) in
     let its = (views.named_is h goes.xids (env_of h.shape (s.blocks c.args.store.now)) c.args.s name c.args.memory.now.sessions goes.remembers there.0 there.1).1 found.0 here in
     does_refused_late s (laws_of g) h call CursorThere (record { memory = c.args.memory.now; store = c.args.store.now }) st c.requires.step.going
-    (Reply.later (name_tests h call) (c.in_ok-check_table.ensures.granted h (name_text c.args.name.now) c.args.lo c.args.hi st.knows (c.shape.ensures.shape ∙ st.shape)) refl (rw its.1 refl)) (λ clash. cc)
+    (MayAnswer.later (name_tests h call) (c.in_ok-check_table.ensures.granted h (name_text c.args.name.now) c.args.lo c.args.hi st.knows (c.shape.ensures.shape ∙ st.shape)) refl (rw its.1 refl)) (λ clash. cc)
 
 pub returns-then-session-ge-CURSORS-clause-did : goal.returns-then-session-ge-CURSORS-clause-did
 returns-then-session-ge-CURSORS-clause-did g c = λ h st.
@@ -78,7 +78,7 @@ returns-then-session-ge-CURSORS-clause-did g c = λ h st.
     let many : 16 ≤ length (cursors_of h c.args.s) = let full = c.if-session-ge-CURSORS.true in let same = its.2 in omega (arith, full, count, same) in
     let none : cursor_of h c.args.s name ≡ None = its.0 (ap (λ (l : List KeptSession). named name (kept_at l c.args.s).cursors) (sym sessions) ∙ (sym c.cursor.ensures ∙ not_some c.cursor.result (sym c.is_some.ensures ∙ c.if-is_some.false))) in
     does_refused_late s (laws_of g) h call TooManyCursors (record { memory = c.args.memory.now; store = c.args.store.now }) st c.requires.step.going
-    (Reply.later (name_tests h call) (c.in_ok-check_table.ensures.granted h (name_text c.args.name.now) c.args.lo c.args.hi st.knows (c.shape.ensures.shape ∙ st.shape)) refl (rw (none, le-leb 16 (length (cursors_of h c.args.s)) many) refl)) (λ clash. cc)
+    (MayAnswer.later (name_tests h call) (c.in_ok-check_table.ensures.granted h (name_text c.args.name.now) c.args.lo c.args.hi st.knows (c.shape.ensures.shape ∙ st.shape)) refl (rw (none, le-leb 16 (length (cursors_of h c.args.s)) many) refl)) (λ clash. cc)
 
 pub returns-clause-step : goal.returns-clause-step
 returns-clause-step g c =
@@ -121,7 +121,7 @@ returns-clause-did g c = λ h st.
     subst (λ (m : Kept). Does s h call machine.Done (record { memory = m; store = store }) (record { memory = now; store = store })) c.memory.view_is
     (does_cursors s st.told (laws_of g) h call machine.Done c.args.s (cursors_of h c.args.s ++ opened_cursor h c.args.s name c.args.table c.args.lo c.args.hi ∷ []) (record { memory = old; store = store }) (record { memory = now; store = store }) here going
     (there.0, (let n = st.knows.sixteen in omega (arith, there, n)))
-    (Reply.later (name_tests h call) (c.in_ok-check_table.ensures.granted h (name_text c.args.name.now) c.args.lo c.args.hi st.knows (c.shape.ensures.shape ∙ st.shape)) refl (rw (none, lt-leb 16 (length (cursors_of h c.args.s)) few) refl)) refl refl (λ s t k a is done. cc) refl refl refl refl refl
+    (MayAnswer.later (name_tests h call) (c.in_ok-check_table.ensures.granted h (name_text c.args.name.now) c.args.lo c.args.hi st.knows (c.shape.ensures.shape ∙ st.shape)) refl (rw (none, lt-leb 16 (length (cursors_of h c.args.s)) few) refl)) refl refl (λ s t k a is done. cc) refl refl refl refl refl
     (ap (λ (l : List KeptSession). map (λ k. k.asked) l) c.open_cursor.ensures ∙ all_asked old.sessions (c.args.s - 1) (with_cursor name opened k) refl)
     (λ xids stand is. subst (Remembers (next.with_cursors h c.args.s (cursors_of h c.args.s ++ opened_cursor h c.args.s name c.args.table c.args.lo c.args.hi ∷ [])) xids (env_of h.shape (s.blocks store)))
     (ap (λ (m : Cursor). with_kept old.sessions c.args.s (with_cursor name m k)) (sym same) ∙ sym c.open_cursor.ensures) (views.opened h xids (s.blocks store) old.sessions c.args.s name c.args.table c.args.lo c.args.hi stand is there.0 there.1 in_tables))

@@ -8,20 +8,20 @@ use Rattle.rb_cr.specs.declared.faults.CrFault.{CrFault}
 use Rattle.rb_cr.specs.declared.faults.CrFault.TheVariants as faults
 use Rattle.rb_engine.specs.Cleaning.{Cleans, ReadIn}
 use Rattle.rb_model.specs.State.{State}
-use Rattle.rb_outliving.specs.Copies.{CopiesStand}
+use Rattle.law_copies.specs.Copies.{CopiesStand}
 use Rattle.rb_engine.specs.Does.{with_copies, EngineView, Kept}
 use Rattle.rb_engine.proofs.CopyLemmas.{knows_copies}
 use Rattle.rb_engine.proofs.DoesLemmas.{does_fault_known, does_refused, does_refused_late, knows_stop}
 use Rattle.rb_engine.proofs.FetchLemmas.{answer_by, cleans_read, does_end, does_old, does_row, needs_lost, not_old, read_by, same_old, serves}
 use Rattle.rb_engine.proofs.StepLemmas.{few_young, fit_at, fit_taken, in_step_moved, in_step_young, named_in, queue_moved}
 use Rattle.rb_model.specs.Calls as machine
-use Rattle.rb_model.specs.Calls.{Answer, Refused, Reply, early_tests, none_applies, next_row}
+use Rattle.rb_model.specs.Calls.{Answer, Refused, MayAnswer, early_tests, none_applies, next_row}
 use Rattle.rb_model.specs.Names.{name_text}
 use Rattle.rb_model.specs.declared.refusal.Refusal.TheVariants.{NoCursor, TooOld}
 use Rattle.rb_model.specs.declared.row.Fetched.{Fetched}
 use Rattle.rb_sessions.specs.Kept.{KeptSession, kept_at, named, with_kept, with_last}
 use Rattle.rb_sessions.specs.Kept as table
-use Rattle.rb_views.proofs.Cursors.{named_is}
+use Rattle.law_sessions.proofs.Cursors.{named_is}
 use Rattle.rb_engine.proofs.MakesLemmas.{makes_refused}
 use Rattle.rb_engine.proofs.fetch.do_fetch.Given.{Over}
 use Rattle.rb_engine.proofs.fetch.do_fetch.Goals as goal
@@ -63,7 +63,7 @@ returns-in_default-clause-did g c = λ h st.
     ap (λ (l : List KeptSession). named name (kept_at l c.args.s).cursors) (sym table_is) ∙ (sym c.cursor.ensures ∙ c.in_default.is) in
     let none = (named_is h goes.xids _ c.args.s name kept.sessions goes.remembers e.session.0 e.session.1).0 nothing in
     does_refused_late s (laws_of g) h call NoCursor (record { memory = kept; store = c.args.store.now }) st c.requires.step.going
-    (Reply.later (machine.name_tests h call) (e.granted h st.knows) refl (answer_by h c.args.s name None (Refused NoCursor) none refl)) (λ clash. cc)
+    (MayAnswer.later (machine.name_tests h call) (e.granted h st.knows) refl (answer_by h c.args.s name None (Refused NoCursor) none refl)) (λ clash. cc)
 
 pub next_row-requires-clause-table : goal.next_row-requires-clause-table
 next_row-requires-clause-table g c =

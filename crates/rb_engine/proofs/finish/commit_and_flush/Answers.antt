@@ -1,7 +1,7 @@
 use Rattle.std.proofs.Common.{not, Bool, sym, subst}
 use Rattle.rb_base.specs.Logs.{Laws, flush_logs}
 use Rattle.rb_engine.specs.Finishing.{Commits}
-use Rattle.rb_image.proofs.Owners.{owned_by}
+use Rattle.law_crash.proofs.Owners.{owned_by}
 use Rattle.rb_engine.proofs.FinishLemmas.{commits_done, commits_failed, runs_in}
 use Rattle.rb_engine.proofs.finish.commit_and_flush.Given.{Over}
 use Rattle.rb_engine.proofs.finish.commit_and_flush.Goals as goal

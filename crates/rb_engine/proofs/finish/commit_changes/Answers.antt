@@ -1,9 +1,9 @@
 use Rattle.std.proofs.Common.{inr, ◌≡◌, ◌<◌, ◌+◌, ◌*◌, ◌/◌, length, Some, false, true, refl, sym, ◌∙◌, ap, subst, arith}
 use Rattle.rb_base.specs.Logs.{Laws}
 use Rattle.rb_engine.specs.Does.{Does, EngineView, IsInStep, Kept, Stands}
-use Rattle.rb_image.proofs.Kept.{rows_kept}
+use Rattle.law_crash.proofs.Kept.{rows_kept}
 use Rattle.rb_model.specs.Calls as machine
-use Rattle.rb_model.specs.Calls.{Reply, is_empty}
+use Rattle.rb_model.specs.Calls.{MayAnswer, is_empty}
 use Rattle.rb_model.specs.Queue.{is_queued}
 use Rattle.rb_model.specs.State.{session_own}
 use Rattle.rb_model.specs.declared.refusal.Refusal.TheVariants.{DiskFault}

@@ -3,17 +3,17 @@ use Rattle.std.proofs.lemmas.Result.{err_from_is_err_and}
 use Rattle.rb_base.specs.Logs.{Laws}
 use Rattle.rb_engine.specs.Does.{Does, EngineView, IsInStep, Kept, Stands}
 use Rattle.rb_model.specs.Calls as machine
-use Rattle.rb_model.specs.Calls.{Reply, is_empty}
+use Rattle.rb_model.specs.Calls.{MayAnswer, is_empty}
 use Rattle.rb_model.specs.NextState.{cursors_of, ended, freeing}
 use Rattle.rb_sessions.specs.Kept.{KeptSession, kept_at}
 use Rattle.rb_sessions.specs.Kept as table
-use Rattle.rb_standing.specs.Standing.{env_of}
-use Rattle.rb_views.proofs.Ended.{end_remembered}
+use Rattle.law_blocks.specs.Standing.{env_of}
+use Rattle.law_sessions.proofs.Ended.{end_remembered}
 use Rattle.rb_engine.proofs.QueueLemmas.{all_asked}
 use Rattle.rb_engine.proofs.DoesLemmas.{does_refused}
 use Rattle.rb_engine.proofs.FinishLemmas.{does_ended}
 use Rattle.rb_engine.proofs.StepLemmas.{few_less, fit_at, fit_committed, in_step_moved, queue_moved}
-use Rattle.rb_views.specs.Views.{Remembers}
+use Rattle.law_sessions.specs.Views.{Remembers}
 use Rattle.rb_engine.proofs.MakesLemmas.{makes_nothing, makes_refused}
 use Rattle.rb_engine.proofs.finish.do_commit.Given.{Over}
 use Rattle.rb_engine.proofs.finish.do_commit.Goals as goal
@@ -65,7 +65,7 @@ returns-in-None-clause-did g c = λ h st.
     let early = c.in_ok-check_session.ensures.granted h st.knows in
     subst (λ (k : Kept). Does s h (machine.Commit c.args.s) machine.Done (record { memory = k; store = store }) new) c.memory.view_is
     (does_ended s (laws_of g) h (machine.Commit c.args.s) c.args.s (cursors_of h c.args.s) old new here going there (is.going (ap (λ (k : Kept). k.stopped) c.memory.view_is ∙ c.in_ok-check_session.ensures.going)) (λ now s t k a is done. cc) own (is.idle c.args.s own) early
-    (λ free none. Reply.later [] early refl (rw none refl)) (λ free none. inr (none, inr (free, refl))) (λ free none. inr (none, inr (free, refl)))
+    (λ free none. MayAnswer.later [] early refl (rw none refl)) (λ free none. inr (none, inr (free, refl))) (λ free none. inr (none, inr (free, refl)))
     (λ free empty xids stand knows. subst (Remembers (freeing (ended h c.args.s (cursors_of h c.args.s)) c.args.s) xids (env_of h.shape (s.blocks store))) (sym c.commit.ensures) (end_remembered h (freeing (ended h c.args.s (cursors_of h c.args.s)) c.args.s) xids (s.blocks store) (env_of h.shape (s.blocks store)) inside.sessions c.args.s stand knows there.0 there.1 empty (inr (free, refl)) (λ u t owns. refl)))
     (ap (λ (l : List KeptSession). map (λ k. k.asked) l) c.commit.ensures ∙ all_asked inside.sessions (c.args.s - 1) (table.committed (kept_at inside.sessions c.args.s)) refl) c.free.ensures
     refl refl refl refl)

@@ -1,15 +1,15 @@
 use Rattle.std.proofs.Common.{inr, [], ◌≡◌, ◌+◌, ◌*◌, ◌/◌, ℕ, List, Some, length, false, refl, sym, ◌∙◌, ap, subst, arith}
 use Rattle.rb_base.specs.Logs.{Laws}
 use Rattle.rb_engine.specs.Does.{Does, EngineView, IsInStep, Kept, Stands, slots_had}
-use Rattle.rb_image.proofs.Kept.{rows_kept}
-use Rattle.rb_image.specs.Made.{BackOver}
+use Rattle.law_crash.proofs.Kept.{rows_kept}
+use Rattle.law_crash.specs.Made.{BackOver}
 use Rattle.rb_model.specs.Calls as machine
-use Rattle.rb_model.specs.Calls.{Reply, is_empty}
+use Rattle.rb_model.specs.Calls.{MayAnswer, is_empty}
 use Rattle.rb_model.specs.Queue.{is_queued}
 use Rattle.rb_model.specs.State.{session_own}
 use Rattle.rb_sessions.specs.Kept.{KeptSession, kept_at}
 use Rattle.rb_sessions.specs.Kept as table
-use Rattle.rb_standing.specs.Groups.{IsEnded}
+use Rattle.law_blocks.specs.Groups.{IsEnded}
 use Rattle.rb_engine.proofs.FinishLemmas.{count_is, does_not, goes, no_early, no_items, own_id, who_in}
 use Rattle.rb_engine.proofs.RollbackLemmas.{does_left}
 use Rattle.rb_engine.proofs.StepLemmas.{few_less, fit_at, fit_committed, in_step_moved, queue_moved}

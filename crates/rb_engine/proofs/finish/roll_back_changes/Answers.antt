@@ -2,7 +2,7 @@ use Rattle.std.proofs.Common.{inr, ◌≡◌, Some, false, true, refl, sym, ◌�
 use Rattle.rb_base.specs.Logs.{Laws}
 use Rattle.rb_engine.specs.Does.{Does, EngineView, IsInStep, Kept, Stands, slots_had}
 use Rattle.rb_model.specs.Calls as machine
-use Rattle.rb_model.specs.Calls.{Reply, is_empty}
+use Rattle.rb_model.specs.Calls.{MayAnswer, is_empty}
 use Rattle.rb_model.specs.declared.refusal.Refusal.TheVariants.{DiskFault}
 use Rattle.rb_sessions.specs.Kept.{KeptSession, kept_at}
 use Rattle.rb_sessions.specs.Kept as table

@@ -14,10 +14,10 @@ use Rattle.rb_engine.proofs.LateLemmas.{reads, timely}
 use Rattle.rb_model.specs.Calls.{is_disk_fault}
 use Rattle.rb_model.specs.declared.mode.Isolation.TheVariants as isolation
 use Rattle.rb_model.specs.declared.refusal.Refusal.{Refusal}
-use Rattle.rb_rebuild.specs.Late.{late_above}
-use Rattle.rb_rebuild.specs.Reading.{History}
+use Rattle.law_read.specs.Late.{late_above}
+use Rattle.law_read.specs.Reading.{History}
 use Rattle.rb_sessions.specs.Kept.{KeptSession, kept_at}
-use Rattle.rb_views.specs.Views.{history}
+use Rattle.law_sessions.specs.Views.{history}
 use Rattle.rb_engine.proofs.late.check_late.Goals as goal
 
 pub returns-clause-timely : goal.returns-clause-timely

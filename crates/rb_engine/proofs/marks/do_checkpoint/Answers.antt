@@ -2,7 +2,7 @@ use Rattle.std.proofs.Common.{◌≡◌, [], Ok, Err, false, true, refl, sym, �
 use Rattle.rb_base.specs.Logs.{Flushes, Laws, flush_logs}
 use Rattle.rb_engine.specs.Does.{EngineView, Kept}
 use Rattle.rb_model.specs.Calls as machine
-use Rattle.rb_model.specs.Calls.{Reply}
+use Rattle.rb_model.specs.Calls.{MayAnswer}
 use Rattle.rb_engine.proofs.DoesLemmas.{does_fault, does_loaded, fault_survives, survives_same}
 use Rattle.rb_engine.proofs.StepLemmas.{in_step_same}
 use Rattle.rb_engine.proofs.marks.do_checkpoint.Given.{Over}
@@ -38,7 +38,7 @@ returns-in-Ok-clause-did g c = λ h st.
     let e = c.in-Ok.ensures in
     let logs : Flushes s c.args.store.now c.checkpoint.new.self [] true = flush_logs s c.args.store.now c.checkpoint.new.self (Ok c.in-Ok.field-0) e.shape e.slots e.failed e.counted e.lsn e.blocks e.settles e.any_moment in
     does_loaded s st.told (laws_of g) h machine.Checkpoint machine.Done old (record { memory = c.args.memory.now; store = c.checkpoint.new.self }) st
-    (Reply.later [] (rw going refl) refl refl) refl refl (λ s t k a is done. cc) refl (λ _. logs) (record { shape = e.shape; slots = e.slots })
+    (MayAnswer.later [] (rw going refl) refl refl) refl refl (λ s t k a is done. cc) refl (λ _. logs) (record { shape = e.shape; slots = e.slots })
 
 pub returns-in-Ok-clause-step : goal.returns-in-Ok-clause-step
 returns-in-Ok-clause-step g c =

@@ -5,7 +5,7 @@ use Rattle.rb_base.specs.Logs.{Laws, Logs, load_logs}
 use Rattle.rb_base.specs.declared.shape.Shape.{Shape}
 use Rattle.rb_engine.specs.Does.{EngineView, Kept}
 use Rattle.rb_model.specs.Calls as machine
-use Rattle.rb_model.specs.Calls.{Reply}
+use Rattle.rb_model.specs.Calls.{MayAnswer}
 use Rattle.rb_restart.proofs.SlotEnded.{block_read}
 use Rattle.rb_engine.proofs.DoesLemmas.{does_fault, does_loaded, fault_survives, marks_told, ok_of}
 use Rattle.rb_engine.proofs.StepLemmas.{in_step_same}
@@ -58,7 +58,7 @@ returns-clause-did g c = λ h st.
     let answer = marks_told h goes.xids (s.blocks c.args.store.now) goes.holds.blocks c.args.seg there c.block-block.result.now
     (block_read s c.args.store.now c.load.new.self c.header_block-header.result (header_block h.shape c.args.seg) c.block-block.result.now st.told (logs.blocks st.told refl) c.block-block.ensures.block (ok_of c.load.result fine e.loaded) at) c.writes.result c.lost.result c.writes.ensures c.lost.ensures in
     does_loaded s st.told (laws_of g) h (machine.Marks c.args.seg) (machine.Marked c.args.seg c.writes.result c.lost.result) old (record { memory = c.args.memory.now; store = c.load.new.self }) st
-    (Reply.later [] (rw going refl) refl answer) refl refl (λ s t k a is done. cc) refl (λ _. logs) (record { shape = e.shape; slots = e.slots })
+    (MayAnswer.later [] (rw going refl) refl answer) refl refl (λ s t k a is done. cc) refl (λ _. logs) (record { shape = e.shape; slots = e.slots })
 
 pub returns-clause-blocks : goal.returns-clause-blocks
 returns-clause-blocks g c = λ tells fine.

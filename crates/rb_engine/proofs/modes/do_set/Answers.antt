@@ -3,7 +3,7 @@ use Rattle.std.proofs.lemmas.Result.{err_from_is_err_and}
 use Rattle.rb_base.specs.Logs.{Laws, no_logs}
 use Rattle.rb_engine.specs.Does.{Does, Goes, IsInStep, Kept, Stands}
 use Rattle.rb_model.specs.Calls as machine
-use Rattle.rb_model.specs.Calls.{Reply, is_unbegun, name_tests}
+use Rattle.rb_model.specs.Calls.{MayAnswer, is_unbegun, name_tests}
 use Rattle.rb_model.specs.Isolation.{isolation_at}
 use Rattle.rb_model.specs.NextState as next
 use Rattle.rb_model.specs.Rows.{last_scn}
@@ -11,9 +11,9 @@ use Rattle.rb_model.specs.State.{Savepoint, session_of}
 use Rattle.rb_model.specs.declared.mode.Isolation.{Isolation}
 use Rattle.rb_model.specs.declared.refusal.Refusal.TheVariants.{NotFirst}
 use Rattle.rb_sessions.specs.Kept.{KeptSession, isolated, kept_at, with_kept}
-use Rattle.rb_standing.specs.Standing.{env_of}
-use Rattle.rb_views.proofs.Modes.{isolated_remembered}
-use Rattle.rb_views.specs.Views.{Remembers}
+use Rattle.law_blocks.specs.Standing.{env_of}
+use Rattle.law_sessions.proofs.Modes.{isolated_remembered}
+use Rattle.law_sessions.specs.Views.{Remembers}
 use Rattle.rb_engine.proofs.QueueLemmas.{all_asked}
 use Rattle.rb_engine.proofs.DoesLemmas.{does_refused, does_refused_late, does_session}
 use Rattle.rb_engine.proofs.ModeLemmas.{idle_is}
@@ -52,7 +52,7 @@ returns-then-not-is_unbegun-clause-did g c = λ h st.
     sym (idle_is c.session.result (session_of h c.args.s) (c.session.ensures.isolation ∙ (ap (λ (l : List KeptSession). (kept_at l c.args.s).isolation) sessions ∙ is.isolation)) (c.session.ensures.length ∙ (ap (λ (l : List KeptSession). (kept_at l c.args.s).count) sessions ∙ is.count)) (c.session.ensures.savepoints.0 ∙ (ap (λ (l : List KeptSession). length (kept_at l c.args.s).savepoints) sessions ∙ ap (λ (l : List Savepoint). length l) is.savepoints)))
     ∙ (sym c.is_unbegun.ensures ∙ c.if-not-is_unbegun.true) in
     does_refused_late s (laws_of g) h call NotFirst (record { memory = c.args.memory.now; store = c.args.store.now }) st c.requires.step.going
-    (Reply.later (name_tests h call) (c.in_ok-check_session.ensures.granted h st.knows) refl (rw begun refl)) (λ clash. cc)
+    (MayAnswer.later (name_tests h call) (c.in_ok-check_session.ensures.granted h st.knows) refl (rw begun refl)) (λ clash. cc)
 
 pub returns-clause-step : goal.returns-clause-step
 returns-clause-step g c =
@@ -89,7 +89,7 @@ returns-clause-did g c = λ h st.
     subst (λ (k : Kept). Does s h call machine.Done (record { memory = k; store = store }) (record { memory = now; store = store })) c.memory.view_is
     (does_session s st.told (laws_of g) h call machine.Done c.args.s (record (session_of h c.args.s) { isolation = mode }) (record { memory = old; store = store }) (record { memory = now; store = store }) here going
     (there.0, (let n = st.knows.sixteen in omega (arith, there, n))) refl
-    (Reply.later (name_tests h call) (c.in_ok-check_session.ensures.granted h st.knows) refl (rw unbegun refl)) refl refl (λ s t k a is done. cc) refl refl refl refl refl
+    (MayAnswer.later (name_tests h call) (c.in_ok-check_session.ensures.granted h st.knows) refl (rw unbegun refl)) refl refl (λ s t k a is done. cc) refl refl refl refl refl
     (ap (λ (l : List KeptSession). map (λ k. k.asked) l) moved ∙ all_asked old.sessions (c.args.s - 1) (isolated mode (kept_at old.sessions c.args.s)) refl)
     (λ xids stand is. subst (Remembers (next.with_isolation h c.args.s mode) xids (env_of h.shape (s.blocks store))) (sym moved) (isolated_remembered h xids (env_of h.shape (s.blocks store)) old.sessions c.args.s c.args.mode is there.0 there.1))
     (no_logs s store ((subst (λ (k : Kept). IsInStep s k store) (sym c.memory.view_is) c.requires.step).going (ap (λ (k : Kept). k.stopped) c.memory.view_is ∙ c.in_ok-check_session.ensures.going)))

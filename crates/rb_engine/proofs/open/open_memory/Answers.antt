@@ -8,7 +8,7 @@ use Rattle.rb_base.specs.Counts.{is_failed}
 use Rattle.rb_base.specs.declared.shape.Shape.{Shape}
 use Rattle.rb_sound.specs.Sound.{AreSound}
 use Rattle.rb_restart.specs.Rollback.{RolledBack, StaySound}
-use Rattle.rb_standing.specs.Standing.{SoundAs, logged_of}
+use Rattle.law_blocks.specs.Standing.{SoundAs, logged_of}
 use Rattle.rb_engine.proofs.open.open_memory.Given.{Over}
 use Rattle.rb_engine.proofs.open.open_memory.Goals as goal
 

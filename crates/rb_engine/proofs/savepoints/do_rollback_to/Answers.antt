@@ -3,16 +3,16 @@ use Rattle.std.proofs.lemmas.Result.{err_from_is_err_and}
 use Rattle.rb_base.specs.Logs.{Laws, no_logs}
 use Rattle.rb_engine.specs.Does.{Does, EngineView, Goes, IsInStep, Kept, Stands}
 use Rattle.rb_model.specs.Calls as machine
-use Rattle.rb_model.specs.Calls.{Reply, name_tests}
+use Rattle.rb_model.specs.Calls.{MayAnswer, name_tests}
 use Rattle.rb_model.specs.Change.{Change}
 use Rattle.rb_model.specs.Names.{name_text}
 use Rattle.rb_model.specs.NextState as next
 use Rattle.rb_model.specs.State.{Savepoint, Session, savepoint_named, savepoint_of, session_of, session_own}
 use Rattle.rb_model.specs.declared.refusal.Refusal.TheVariants.{NoSavepoint}
 use Rattle.rb_sessions.specs.Kept.{KeptSession, back_at, kept_at, rolled_to, with_kept}
-use Rattle.rb_standing.specs.Standing.{env_of}
-use Rattle.rb_views.proofs.Savepoints.{cut_remembered}
-use Rattle.rb_views.specs.Views.{Remembers}
+use Rattle.law_blocks.specs.Standing.{env_of}
+use Rattle.law_sessions.proofs.Savepoints.{cut_remembered}
+use Rattle.law_sessions.specs.Views.{Remembers}
 use Rattle.rb_engine.proofs.QueueLemmas.{all_asked}
 use Rattle.rb_engine.proofs.DoesLemmas.{does_refused, does_refused_late, does_session}
 use Rattle.rb_engine.proofs.FinishLemmas.{no_items}
@@ -52,7 +52,7 @@ returns-in_default-clause-did g c = λ h st.
     let same : kept ≡ (session_of h c.args.s).savepoints = ap (λ (k : Kept). (kept_at k.sessions c.args.s).savepoints) c.memory.view_is ∙ (goes.remembers.each c.args.s there.0 there.1).savepoints in
     let none : savepoint_of h c.args.s name ≡ None = ap (savepoint_named name) (sym same) ∙ kept_none (savepoint_named name kept) (sym c.savepoint.ensures ∙ c.in_default.is) in
     does_refused_late s (laws_of g) h call NoSavepoint (record { memory = c.args.memory.now; store = c.args.store.now }) st c.requires.step.going
-    (Reply.later (name_tests h call) (c.in_ok-check_session.ensures.granted h st.knows) refl (rw none refl)) (λ clash. cc)
+    (MayAnswer.later (name_tests h call) (c.in_ok-check_session.ensures.granted h st.knows) refl (rw none refl)) (λ clash. cc)
 
 pub returns-in-None-clause-step : goal.returns-in-None-clause-step
 returns-in-None-clause-step g c =
@@ -97,7 +97,7 @@ returns-in-None-clause-did g c = λ h st.
     subst (λ (k : Kept). Does s h call machine.Done (record { memory = k; store = store }) (record { memory = now; store = store })) c.memory.view_is
     (does_session s st.told (laws_of g) h call machine.Done c.args.s session (record { memory = inside; store = store }) (record { memory = now; store = store }) here going
     (there.0, (let n = st.knows.sixteen in omega (arith, there, n))) own
-    (Reply.later (name_tests h call) (c.in_ok-check_session.ensures.granted h st.knows) refl (rw at refl)) (p, at, refl) (p, at, (let none = ap (λ (l : List Change). length l) empty in omega (arith, none))) (λ s t k a is done. cc) refl refl refl refl refl
+    (MayAnswer.later (name_tests h call) (c.in_ok-check_session.ensures.granted h st.knows) refl (rw at refl)) (p, at, refl) (p, at, (let none = ap (λ (l : List Change). length l) empty in omega (arith, none))) (λ s t k a is done. cc) refl refl refl refl refl
     (ap (λ (l : List KeptSession). map (λ k. k.asked) l) moved ∙ all_asked inside.sessions (c.args.s - 1) (rolled_to name p.kept k) refl)
     (λ xids stand knows. subst (Remembers (next.rolled_to h c.args.s name p.kept) xids (env_of h.shape (s.blocks store))) (sym moved)
     (cut_remembered h xids (env_of h.shape (s.blocks store)) (env_of h.shape (s.blocks store)) c.args.s name p.kept there.0 (λ u t owns. refl) inside.sessions there.1 knows))

@@ -4,15 +4,15 @@ use Rattle.std.proofs.lemmas.Result.{err_from_is_err_and}
 use Rattle.rb_base.specs.Logs.{Laws, no_logs}
 use Rattle.rb_engine.specs.Does.{Does, Goes, IsInStep, Kept, Stands}
 use Rattle.rb_model.specs.Calls as machine
-use Rattle.rb_model.specs.Calls.{Reply, name_tests, without_savepoint}
+use Rattle.rb_model.specs.Calls.{MayAnswer, name_tests, without_savepoint}
 use Rattle.rb_model.specs.Names.{name_text}
 use Rattle.rb_model.specs.NextState as next
 use Rattle.rb_model.specs.State.{Savepoint, savepoint_named, session_of, session_own}
 use Rattle.rb_model.specs.declared.refusal.Refusal.TheVariants.{TooManySavepoints}
 use Rattle.rb_sessions.specs.Kept.{KeptSession, kept_at, with_savepoint}
-use Rattle.rb_standing.specs.Standing.{env_of}
-use Rattle.rb_views.proofs.Savepoints.{savepoint_remembered}
-use Rattle.rb_views.specs.Views.{Remembers}
+use Rattle.law_blocks.specs.Standing.{env_of}
+use Rattle.law_sessions.proofs.Savepoints.{savepoint_remembered}
+use Rattle.law_sessions.specs.Views.{Remembers}
 use Rattle.rb_engine.proofs.QueueLemmas.{all_asked}
 use Rattle.rb_engine.proofs.DoesLemmas.{does_refused, does_refused_late, does_session, none_of, some_of}
 use Rattle.rb_engine.proofs.SavepointLemmas.{kept_none, kept_some, others_all, others_few, others_fewer}
@@ -55,7 +55,7 @@ returns-then-is_none-clause-did g c = λ h st.
     let count = ap (λ (l : List Savepoint). length l) others in
     let told = c.session-count.ensures.savepoints.0 in
     does_refused_late s (laws_of g) h call TooManySavepoints (record { memory = c.args.memory.now; store = c.args.store.now }) st c.requires.step.going
-    (Reply.later (name_tests h call) (c.in_ok-check_session.ensures.granted h st.knows) refl (rw (le-leb 16 (length (without_savepoint name (session_of h c.args.s).savepoints)) (omega (arith, count, told, c.if-count-ge-SAVEPOINTS.true))) refl)) (λ clash. cc)
+    (MayAnswer.later (name_tests h call) (c.in_ok-check_session.ensures.granted h st.knows) refl (rw (le-leb 16 (length (without_savepoint name (session_of h c.args.s).savepoints)) (omega (arith, count, told, c.if-count-ge-SAVEPOINTS.true))) refl)) (λ clash. cc)
 
 pub set_savepoint-requires-clause-room : goal.set_savepoint-requires-clause-room
 set_savepoint-requires-clause-room g c =
@@ -104,7 +104,7 @@ returns-clause-did g c = λ h st.
     subst (λ (k : Kept). Does s h call machine.Done (record { memory = k; store = store }) (record { memory = now; store = store })) c.memory.view_is
     (does_session s st.told (laws_of g) h call machine.Done c.args.s (record (session_of h c.args.s) { savepoints = savepoints }) (record { memory = old; store = store }) (record { memory = now; store = store }) here going
     (there.0, (let n = st.knows.sixteen in omega (arith, there, n))) refl
-    (Reply.later (name_tests h call) (c.in_ok-check_session.ensures.granted h st.knows) refl (rw (lt-leb 16 (length (without_savepoint name (session_of h c.args.s).savepoints)) few) refl)) refl refl (λ s t k a is done. cc) refl refl refl refl refl
+    (MayAnswer.later (name_tests h call) (c.in_ok-check_session.ensures.granted h st.knows) refl (rw (lt-leb 16 (length (without_savepoint name (session_of h c.args.s).savepoints)) few) refl)) refl refl (λ s t k a is done. cc) refl refl refl refl refl
     (ap (λ (l : List KeptSession). map (λ k. k.asked) l) c.set_savepoint.ensures ∙ all_asked old.sessions (c.args.s - 1) (with_savepoint name (kept_at old.sessions c.args.s)) refl)
     (λ xids stand is. subst (Remembers (next.with_savepoints h c.args.s savepoints) xids (env_of h.shape (s.blocks store))) (sym c.set_savepoint.ensures) (savepoint_remembered h xids (env_of h.shape (s.blocks store)) old.sessions c.args.s name is there.0 there.1))
     (no_logs s store ((subst (λ (k : Kept). IsInStep s k store) (sym c.memory.view_is) c.requires.step).going (ap (λ (k : Kept). k.stopped) c.memory.view_is ∙ c.in_ok-check_session.ensures.going)))

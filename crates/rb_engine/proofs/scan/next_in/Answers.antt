@@ -11,11 +11,11 @@ use Rattle.rb_engine.specs.Scanning.{Begins, HasKey, HasNext, HasNone, IsBehind}
 use Rattle.rb_engine.proofs.CleanLemmas.{behind_same, cleans_loaded, env_same, in_table, next_same, none_cleaned, none_same, same_or_clean, serves_on, step_cleaned, step_fails}
 use Rattle.rb_engine.proofs.FetchLemmas.{found_next, is_behind}
 use Rattle.rb_engine.proofs.SharedLemmas.{read_with, reads_keep}
-use Rattle.rb_outliving.specs.Copies.{CopiesStand}
-use Rattle.rb_outliving.proofs.Outliving.{same_keeps}
+use Rattle.law_copies.specs.Copies.{CopiesStand}
+use Rattle.law_copies.proofs.Outliving.{same_keeps}
 use Rattle.rb_model.specs.State.{State}
-use Rattle.rb_rebuild.specs.Reading.{History}
-use Rattle.rb_views.specs.Views.{history, home_in}
+use Rattle.law_read.specs.Reading.{History}
+use Rattle.law_sessions.specs.Views.{history, home_in}
 use Rattle.rb_engine.proofs.scan.next_in.Given.{Over}
 use Rattle.rb_engine.proofs.scan.next_in.Goals as goal
 
@@ -105,7 +105,7 @@ module _ (g : Over) (c : goal.After-next_at g) (told : g.S.Store.tells) (h : Sta
   b_in : home_in h.shape c.args.cursor.now.table c.args.g < table_blocks h.shape
   b_in = in_table c.args.cursor.now.table c.args.g h.shape on.there (subst (λ (k : Shape). (1 ≤ c.args.cursor.now.table) × (c.args.cursor.now.table ≤ k.tables)) serves.shape c.requires.table)
 
-  abbrev env : Rattle.rb_standing.specs.Standing.env_of h.shape blocks ≡ Rattle.rb_standing.specs.Standing.env_of h.shape (g.S.Store.blocks c.args.store.now)
+  abbrev env : Rattle.law_blocks.specs.Standing.env_of h.shape blocks ≡ Rattle.law_blocks.specs.Standing.env_of h.shape (g.S.Store.blocks c.args.store.now)
   env = env_same h.shape (g.S.Store.blocks c.args.store.now) blocks clean.only.segments
 
 pub returns-clause-told : goal.returns-clause-told

@@ -8,7 +8,7 @@ use Rattle.rb_engine.specs.Cleaning.{Cleans, IsBefore, IsHere, MustIn, ReadIn, S
 use Rattle.rb_engine.specs.Scanning.{Begins, HasKey, HasNext, HasNone}
 use Rattle.rb_engine.proofs.CleanLemmas.{behind_same, cleaned_as, env_mid, in_table, next_same, none_cleaned, none_same, read_by_end, read_in_table, read_no_more, read_up_to, same_or_clean, serves_mid, turn_fails, turned, young_on}
 use Rattle.rb_model.specs.State.{State}
-use Rattle.rb_views.specs.Scan.{IsAskedKey}
+use Rattle.law_sessions.specs.Scan.{IsAskedKey}
 use Rattle.rb_engine.proofs.scan.next_row.Given.{Over}
 use Rattle.rb_engine.proofs.scan.next_row.Goals as goal
 
@@ -92,7 +92,7 @@ returns-in-Err-clause-found g c = λ told h xids serves copies.
           let bs : l % c.shape-blocks.result.blocks ≡ l % h.shape.blocks = ap (λ (z : Shape). l % z.blocks) (c.shape-blocks.ensures.shape ∙ serves.shape) in
           omega (arith, first_is, le, bs),
       behind_same h xids (s.blocks old) (s.blocks mid) serves.holds.blocks m c.loop-g.g (in_table m.table c.loop-g.g h.shape there (subst (λ (k : Shape). (1 ≤ m.table) × (m.table ≤ k.tables)) serves.shape c.requires.table))
-          (env_mid s told (laws_of g) h xids m c.loop-g.g old mid mid inv.logs.same_shape inv.logs.same_slots serves before) (same_or_clean (before.only.each (Rattle.rb_views.specs.Views.home_in h.shape m.table c.loop-g.g))) c.in-Err.fault both.1,
+          (env_mid s told (laws_of g) h xids m c.loop-g.g old mid mid inv.logs.same_shape inv.logs.same_slots serves before) (same_or_clean (before.only.each (Rattle.law_sessions.specs.Views.home_in h.shape m.table c.loop-g.g))) c.in-Err.fault both.1,
     )
 
 pub returns-in-Err-clause-cleans : goal.returns-in-Err-clause-cleans

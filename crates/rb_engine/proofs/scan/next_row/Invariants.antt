@@ -6,7 +6,7 @@ use Rattle.rb_base.specs.declared.sizes.TheConstants.{WORN}
 use Rattle.rb_engine.specs.Cleaning.{HasCleaned, IsBefore, Serves}
 use Rattle.rb_engine.specs.Scanning.{HasNone}
 use Rattle.rb_model.specs.State.{State}
-use Rattle.rb_outliving.specs.Copies.{CopiesStand}
+use Rattle.law_copies.specs.Copies.{CopiesStand}
 use Rattle.rb_engine.proofs.scan.next_row.Given as goal
 
 abbrev pub invariant-loop-g : goal.invariant-loop-g

@@ -5,7 +5,7 @@ use Rattle.rb_base.specs.declared.shape.Shape.{Shape}
 use Rattle.rb_engine.specs.Does.{EngineView, IsInStep, Kept}
 use Rattle.rb_engine.specs.Lateness.{IsTimely}
 use Rattle.rb_engine.specs.Scanning.{OtherHolds}
-use Rattle.rb_image.proofs.Tells.{tells_same}
+use Rattle.law_crash.proofs.Tells.{tells_same}
 use Rattle.rb_model.specs.Answers.{action_by}
 use Rattle.rb_model.specs.Calls as machine
 use Rattle.rb_model.specs.Calls.{is_disk_fault}

@@ -2,8 +2,8 @@ use Rattle.std.proofs.Common.{◌≡◌, ℕ, List, Option, Some, sym, ◌∙◌
 use Rattle.rb_base.specs.declared.ids.Xid.{Xid}
 use Rattle.rb_engine.specs.Does.{Kept}
 use Rattle.rb_sessions.specs.Kept.{KeptSession, kept_at}
-use Rattle.rb_standing.specs.Standing.{env_of}
-use Rattle.rb_undoengine.specs.Steps.{IsHolder}
+use Rattle.law_blocks.specs.Standing.{env_of}
+use Rattle.rb_steps.specs.Steps.{IsHolder}
 use Rattle.rb_engine.proofs.WriteLemmas.{holder_found, holder_only, holder_there, none_holds, own_holds}
 use Rattle.rb_engine.proofs.write.other_holder.Goals as goal
 use Rattle.rb_engine.proofs.write.other_holder.Goals.{in-Some, in_default-2, in_default}

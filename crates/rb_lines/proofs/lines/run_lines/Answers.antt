@@ -22,9 +22,9 @@ loop-room-init g c = record {
   buffer = refl;
   some = c.requires.buffer;
   room = omega arith;
-  part = λ t. part_start _ _ c.args.runner.now _ g.K.Sink.tells _ _ _ (λ m is going. g.met.M.LineRunner.since_same c.args.runner.now m is going) c.new-pending.ensures;
+  part = λ t. part_start _ _ c.args.runner.now _ g.K.Sink.tells _ _ _ (λ m is going. g.met.M.LineRunner.since_same c.args.runner.now m is going) c.new-partial.ensures;
   line = [];
-  held = c.new-pending.ensures;
+  held = c.new-partial.ensures;
   passed = λ m is going. record { now = m; reached = is; passed = g.met.M.LineRunner.since_same c.args.runner.now m is going; ran = going };
   source = refl;
   disk = refl;

@@ -3,10 +3,10 @@ use Rattle.rb_base.specs.declared.shape.Shape.{Shape}
 use Rattle.rb_layout.specs.Regions.{shape_of}
 use Rattle.rb_model.specs.Rows.{rows_at}
 use Rattle.rb_model.specs.State.{opened}
-use Rattle.rb_opening.proofs.Sound.{sound_as}
-use Rattle.rb_opening.specs.Opens.{books_of}
+use Rattle.rb_recovery.proofs.Sound.{sound_as}
+use Rattle.rb_recovery.specs.Opens.{books_of}
 use Rattle.rb_shell.proofs.LeftLemmas.{restart_small}
-use Rattle.rb_standing.specs.Standing.{SoundAs, logged_of}
+use Rattle.law_blocks.specs.Standing.{SoundAs, logged_of}
 use Rattle.rb_shell.proofs.laws.restarts_sound.Goals as goal
 
 pub returns : goal.returns

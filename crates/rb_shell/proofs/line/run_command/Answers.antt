@@ -8,7 +8,7 @@ use Rattle.rb_lines.specs.Ran.{CallsBegun}
 use Rattle.rb_lines.specs.declared.runner.StepFault.{StepFault}
 use Rattle.rb_model.specs.Lines.{call_of, caller, most_calls}
 use Rattle.rb_model.specs.Out.{CommandOut, Logged}
-use Rattle.rb_model.specs.declared.answer.Answer as code
+use Rattle.rb_model.specs.declared.outcome.Outcome as code
 use Rattle.rb_script.specs.Commands.{command_of}
 use Rattle.rb_engine.specs.Does.{EngineView}
 use Rattle.rb_calls.specs.Since.{IsSince, StandsAs, since_same, since_joined, engine_outside}
@@ -87,9 +87,9 @@ returns-in_err-call_once-clause-did g c = λ m is going.
     (λ n reached on. c.call_once.ensures.did n reached on)
     (λ n k so calls.
     let fault : c.call_once.result ≡ Err p.0 = c.in_err-call_once.was ∙ sym (ap (λ (x : StepFault). Err x) p.2) in
-    let here = subst (λ (r : Result code.Answer StepFault). Calls n engine_outside (caller (command_of c.args.command.now)) (call_of (command_of c.args.command.now) c.loop-k.k) c.call_once.new.row k g.K.Sink.tells (g.K.Sink.held c.loop-k.sink) c.loop-k.waiting.bytes.items (g.K.Sink.held c.call_once.new.sink) c.call_once.new.waiting.bytes.items r) fault calls in
+    let here = subst (λ (r : Result code.Outcome StepFault). Calls n engine_outside (caller (command_of c.args.command.now)) (call_of (command_of c.args.command.now) c.loop-k.k) c.call_once.new.row k g.K.Sink.tells (g.K.Sink.held c.loop-k.sink) c.loop-k.waiting.bytes.items (g.K.Sink.held c.call_once.new.sink) c.call_once.new.waiting.bytes.items r) fault calls in
     subst (λ (r : Result (Unit {0}) StepFault). SaidAs (CommandOut m engine_outside (command_of c.args.command.now)) (CallsBegun m engine_outside (command_of c.args.command.now)) k g.K.Sink.tells (g.K.Sink.held c.args.sink.now) (g.K.Sink.held c.call_once.new.sink) c.call_once.new.waiting.bytes.items r) (sym p.1)
-    (calls_fault m n k _ _ c.loop-k.k c.call_once.new.row g.K.Sink.tells _ _ _ _ _ so p.0 (λ zero. sym (ap (λ (r : Result code.Answer StepFault). err_is is_sink r) fault) ∙ c.call_once.ensures.first (i.first zero)) (subst (λ (end : ℕ). c.loop-k.k < end) (c.calls_of-k-end.ensures ∙ ap (λ (x : Shape). most_calls x (command_of c.args.command.now)) (c.shape.ensures.shape ∙ is.engine.shape)) c.loop-k-test.true) here))
+    (calls_fault m n k _ _ c.loop-k.k c.call_once.new.row g.K.Sink.tells _ _ _ _ _ so p.0 (λ zero. sym (ap (λ (r : Result code.Outcome StepFault). err_is is_sink r) fault) ∙ c.call_once.ensures.first (i.first zero)) (subst (λ (end : ℕ). c.loop-k.k < end) (c.calls_of-k-end.ensures ∙ ap (λ (x : Shape). most_calls x (command_of c.args.command.now)) (c.shape.ensures.shape ∙ is.engine.shape)) c.loop-k-test.true) here))
 
 pub returns-clause-did : goal.returns-clause-did
 returns-clause-did g c = λ m is going.

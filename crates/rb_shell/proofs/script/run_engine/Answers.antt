@@ -4,8 +4,8 @@ use Rattle.rb_lines.specs.Ends as lines
 use Rattle.rb_lines.specs.Faults.{IsCountedBeside}
 use Rattle.rb_lines.specs.declared.lines.LinesEnd.{LinesEnd}
 use Rattle.rb_lines.specs.declared.lines.LinesEnd.TheVariants as ends
-use Rattle.rb_image.proofs.Crashes.{survives_on}
-use Rattle.rb_image.specs.Crash.{Survives}
+use Rattle.law_crash.proofs.Crashes.{survives_on}
+use Rattle.law_crash.specs.Crash.{Survives}
 use Rattle.rb_shell.specs.Runs.{MadeLast}
 use Rattle.rb_calls.specs.Since.{engine_outside}
 use Rattle.rb_shell.specs.Statuses.{by_disk, by_sink, by_source}

@@ -9,7 +9,7 @@ use Rattle.rb_layout.specs.declared.layout.Head.{Head}
 use Rattle.rb_layout.specs.declared.layout.Layout.{Layout}
 use Rattle.rb_log.specs.GroupSlots.{IsLoggable, LogState}
 use Rattle.rb_log.specs.GroupSlots.{GroupsAre}
-use Rattle.rb_roll.specs.Rolled.{rolled}
+use Rattle.law_redo.specs.Rolled.{rolled}
 use Rattle.rb_twin.specs.Twins.{home}
 use Rattle.rb_cache.specs.Frames.{seen}
 use Rattle.rb_cache.specs.declared.frame.Frame.{Frame}

@@ -1,6 +1,6 @@
 use Rattle.std.proofs.Common.{◌-◌, ◌==◌, if◌then◌else◌, List, ◌∷◌, length, take, ap, sym, ◌∙◌, subst}
 use Rattle.rb_layout.specs.Regions.{block_count}
-use Rattle.rb_roll.specs.Rolled.{step}
+use Rattle.law_redo.specs.Rolled.{step}
 use Rattle.rb_cache.specs.Frames.{AreBelow, AreClean, CacheState, has_number, numbers_of, seen, without}
 use Rattle.rb_cache.specs.Slots.{held_in}
 use Rattle.rb_cache.specs.declared.frame.Frame.{Frame}

@@ -2,7 +2,7 @@ use Rattle.std.proofs.Common.{◌≡◌, ℕ, ◌==◌, nat_lt, Bool, true, fals
 use Rattle.rb_base.specs.Blocks.{written_to}
 use Rattle.rb_base.specs.Fields.{number_at}
 use Rattle.rb_base.specs.Groups.{Patch}
-use Rattle.rb_roll.specs.Rolled.{after_block, has_block, step}
+use Rattle.law_redo.specs.Rolled.{after_block, has_block, step}
 use Rattle.rb_cache.proofs.NumberLemmas.{behind_of, front_of}
 use Rattle.rb_cache.proofs.frame.Frame.patch.Goals as goal
 

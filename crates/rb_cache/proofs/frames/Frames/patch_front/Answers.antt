@@ -1,6 +1,6 @@
 use Rattle.std.proofs.Common.{◌≡◌, ◌≢◌, ℕ, List, [], ◌∷◌, get_or, set, ap, sym, ◌∙◌, subst}
 use Rattle.std.specs.Map.{keys_of}
-use Rattle.rb_roll.specs.Rolled.{step}
+use Rattle.law_redo.specs.Rolled.{step}
 use Rattle.rb_cache.specs.Frames.{without}
 use Rattle.rb_cache.specs.Slots.{FramesState, frame_at, held_in, held_of}
 use Rattle.rb_cache.specs.declared.frame.Frame.{Frame}

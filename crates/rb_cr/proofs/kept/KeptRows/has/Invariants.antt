@@ -1,6 +1,6 @@
 use Rattle.std.proofs.Common.{◌≡◌, drop}
 use Rattle.rb_cr.specs.KeptRows.{kept_of}
-use Rattle.rb_rebuild.specs.Keeping.{has}
+use Rattle.law_read.specs.Keeping.{has}
 use Rattle.rb_cr.proofs.kept.KeptRows.has.Given as goal
 
 abbrev pub invariant-loop-i : goal.invariant-loop-i

@@ -5,7 +5,7 @@ use Rattle.rb_model.specs.Answers.{fetch_answer}
 use Rattle.rb_model.specs.Calls as machine
 use Rattle.rb_model.specs.Names.{name_text}
 use Rattle.rb_engine.proofs.TellsLemmas.{tells_fetched}
-use Rattle.rb_image.specs.Made.{TellsLooks}
+use Rattle.law_crash.specs.Made.{TellsLooks}
 use Rattle.rb_engine.specs.Makes.{Makes}
 use Rattle.rb_engine.proofs.engine.Engine.fetch.Goals as goal
 

@@ -3,7 +3,7 @@ use Rattle.rb_engine.specs.Does.{Does, EngineView, Stands}
 use Rattle.rb_engine.specs.Lateness.{WriteNeedsLost}
 use Rattle.rb_model.specs.Answers.{write_answer}
 use Rattle.rb_model.specs.Calls as machine
-use Rattle.rb_image.specs.Made.{TellsLooks}
+use Rattle.law_crash.specs.Made.{TellsLooks}
 use Rattle.rb_engine.specs.Makes.{Makes}
 use Rattle.rb_engine.proofs.engine.Engine.lock.Goals as goal
 

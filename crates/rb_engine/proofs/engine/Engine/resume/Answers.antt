@@ -4,7 +4,7 @@ use Rattle.rb_engine.specs.Lateness.{ResumeNeedsLost}
 use Rattle.rb_model.specs.Queue.{ready_count}
 use Rattle.rb_waits.proofs.Counts.{few}
 use Rattle.rb_waits.proofs.Turns.{few_ready}
-use Rattle.rb_image.specs.Made.{TellsLooks}
+use Rattle.law_crash.specs.Made.{TellsLooks}
 use Rattle.rb_engine.specs.Makes.{ResumeMakes}
 use Rattle.rb_engine.proofs.engine.Engine.resume.Goals as goal
 

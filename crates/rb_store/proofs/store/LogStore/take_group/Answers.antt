@@ -3,7 +3,7 @@ use Rattle.std.proofs.lemmas.Bool.{cases_eq}
 use Rattle.rb_base.specs.Groups.{Patch}
 use Rattle.rb_layout.specs.Regions.{block_count}
 use Rattle.rb_layout.specs.declared.layout.Head.{Head}
-use Rattle.rb_roll.specs.Rolled.{step}
+use Rattle.law_redo.specs.Rolled.{step}
 use Rattle.rb_cache.specs.Frames.{seen}
 use Rattle.rb_log.specs.GroupSlots.{GroupsAre}
 use Rattle.rb_store.specs.CachedFiles.{CachedState, Done, FlushesFull, Keeps, Leaving, SameNumbers, SeenOrPatched, Settled, StaysOrNone}

@@ -1,0 +1,21 @@
+//! What a call of the engine answers, whichever call it is. The shell makes one of each result, and prints it.
+use crate::refusal::Refusal;
+
+/// An answer, without the row that a fetch gives.
+#[derive(Clone, Copy, Debug, PartialEq, Eq)]
+pub enum Outcome {
+    /// It was done, and there is nothing more to say.
+    Done,
+    /// A write waits for that session.
+    Waits { on: u16 },
+    /// A commit took this number.
+    Committed { number: u64 },
+    /// A fetch gave the next row.
+    Row,
+    /// A fetch gave none: all rows were given before.
+    End,
+    /// What a segment has made and given up.
+    Marked { seg: u16, writes: u64, lost: u64 },
+    /// It was refused.
+    Refused { why: Refusal },
+}

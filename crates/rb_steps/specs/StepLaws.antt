@@ -1,0 +1,68 @@
+-- An attempt's answer is the machine's: a refusal is the first of its tests that applies, and a write that is done is
+-- one that no test refuses, after which the blocks stand for the machine's next state. Who holds a key is who does in
+-- the machine, and a session that is about to write has a place for it.
+use Rattle.std.specs.Prelude.{◌≡◌, ◌<◌, ◌≤◌, ◌+◌, ◌*◌, ℕ, List, length, Option}
+use Rattle.rb_write.specs.Asks.{adds_row, home_for, kind_of, IsWriterOf}
+use Rattle.rb_write.specs.Holding.{holder_in}
+use Rattle.rb_write.specs.Refusals.{Refuses, TakesWrite}
+use Rattle.rb_write.specs.declared.ask.Ask.{Ask}
+use Rattle.rb_write.specs.declared.ask.AttemptFault.{AttemptFault}
+use Rattle.rb_base.specs.Blocks.{home_block}
+use Rattle.rb_base.specs.declared.ids.Uba.{Uba}
+use Rattle.rb_base.specs.declared.ids.Xid.{Xid}
+use Rattle.rb_base.specs.declared.sizes.TheConstants.{WORN}
+use Rattle.rb_model.specs.Calls.{Refused, Done, WritesIn, first_of, write_tests}
+use Rattle.rb_model.specs.State.{State}
+use Rattle.rb_model.specs.NextState.{change_in, written}
+use Rattle.rb_segment.specs.Header.{Header}
+use Rattle.law_blocks.specs.Standing.{env_of, logged_of}
+use Rattle.law_blocks.specs.States.{BlocksStand}
+use Rattle.law_blocks.specs.Writing.{IsWritten}
+use Rattle.rb_undoblock.specs.declared.record.UndoRecord.{UndoRecord}
+use Rattle.rb_model.specs.Answers.{action_by}
+use Rattle.rb_steps.specs.Steps.{refusal_of, IsAbout, IsHolder, MayWrite}
+
+-- the record is that of the ask, by that transaction
+pub record IsAsked (h : State) (ask : Ask) (x : Xid) (u : UndoRecord) : Type 0 where
+  pub table : u.table ≡ ask.table
+  pub key : u.key ≡ ask.key
+  pub wrap : u.wrap ≡ x.wrap
+  pub home : u.home ≡ home_block h.shape ask.table ask.key
+
+-- The session writes where the machine says, and a refusal of its write is the answer of the machine's first test that
+-- applies.
+abbrev pub RefusedAsMachine : Type 0
+RefusedAsMachine = (h : State) (xids : List Xid) (blocks : List (List ℕ)) (s logged : ℕ) (ask : Ask) (x : Xid)
+    (ready : Header) (fault : AttemptFault)
+    → IsAbout h xids s ask.own blocks → 1 ≤ ask.table → ask.table ≤ h.shape.tables
+    → MayWrite h s ask.table ask.key → IsWriterOf h.shape blocks ask.own x ready
+    → Refuses fault (home_for h.shape blocks ask) (adds_row ask.op) ask.key x ready logged
+    → WritesIn h s x.seg x.slot
+    × (first_of (write_tests h logged x.seg x.slot s ask.table ask.key (action_by ask.op)) Done
+    ≡ Refused (refusal_of fault))
+
+-- A write that is done is one that no test of the machine refuses, and the blocks stand for the state after it.
+abbrev pub DoneAsMachine : Type 0
+DoneAsMachine = (h : State) (xids : List Xid) (before now : List (List ℕ)) (s : ℕ) (ask : Ask) (x : Xid)
+    (ready : Header) (address : Uba) (u : UndoRecord)
+    → IsAbout h xids s ask.own before → s ≤ length h.sessions → 1 ≤ ask.table
+    → ask.table ≤ h.shape.tables → MayWrite h s ask.table ask.key → IsWriterOf h.shape before ask.own x ready
+    → IsAsked h ask x u → TakesWrite (home_for h.shape before ask) (adds_row ask.op) ask.key
+    → IsWritten h.shape (16 * x.seg + x.slot) (adds_row ask.op) (kind_of ask.op) address u before now
+    → logged_of h.shape before < WORN
+    → WritesIn h s x.seg x.slot
+    × (first_of (write_tests h (logged_of h.shape before) x.seg x.slot s ask.table ask.key (action_by ask.op))
+    Done ≡ Done)
+    × BlocksStand (written h s x.seg x.slot (change_in h x.seg ask.table ask.key (action_by ask.op))) xids now
+
+-- Who holds a key by its home, as it is, and by the headers, is who holds it in the machine.
+abbrev pub HolderIsMachines : Type 0
+HolderIsMachines = (h : State) (xids : List Xid) (blocks : List (List ℕ)) (table key : ℕ)
+    → BlocksStand h xids blocks → 1 ≤ table → table ≤ h.shape.tables
+    → IsHolder h (env_of h.shape blocks) table key (holder_in h.shape blocks table key)
+
+-- A session writes in its slot, or would begin somewhere, as at most fifteen others have one.
+abbrev pub WritesSomewhere : Type 0
+WritesSomewhere = (h : State) (xids : List Xid) (blocks : List (List ℕ)) (s : ℕ) (own : Option Xid)
+    → IsAbout h xids s own blocks → s ≤ length h.sessions → length h.sessions ≤ 16
+    → (g : ℕ) × (i : ℕ) × WritesIn h s g i

@@ -1,0 +1,115 @@
+//! One attempt of a write: what stands in its way, and the group that makes it. rb_steps calls it.
+ghost use Rattle.std.specs.Prelude.{◌≡◌, ◌*◌, ◌+◌, ◌<◌, ◌≤◌, List, [], true, false, not};
+ghost use Rattle.std.specs.Prelude.{length, Some, IfOk, IfErr, OnErr, OnOk};
+ghost use Rattle.rb_write.specs.Asks.{adds_row, home_for, kind_of, AreYoung, IsShort, IsWriterOf, MayWrite};
+ghost use Rattle.rb_write.specs.Making.{IsMade, MakesIfAny};
+ghost use Rattle.rb_write.specs.Refusals.{has_failed, HasCause, Refuses, TakesWrite};
+ghost use Rattle.rb_base.specs.Blocks.{after_group, home_block, AreWithin};
+ghost use Rattle.rb_base.specs.Groups.{Patch};
+ghost use Rattle.rb_base.specs.Logs.{Logs, group_of};
+ghost use Rattle.rb_base.specs.declared.ids.Uba.{Uba};
+ghost use Rattle.rb_base.specs.declared.ids.Xid.{Xid};
+ghost use Rattle.rb_segment.specs.Header.{Header};
+ghost use Rattle.law_blocks.specs.Standing.{logged_of};
+ghost use Rattle.law_blocks.specs.Writing.{IsWritten};
+ghost use Rattle.rb_undoblock.specs.declared.record.UndoRecord.{UndoRecord};
+
+use crate::ask::{Ask, AttemptFault};
+use crate::home::{Place, cell_for, clean_home};
+use crate::segment::writer;
+use crate::undo::put_change;
+use rb_base::{Group, SLOTS, Store, UNIT, WORN, Xid};
+use rb_heap::choose;
+
+/// Puts the write that is asked for into the group, or refuses to. The store is given no group by it, and only loads
+/// blocks. The key is looked for once more here: who holds it was asked of its block as it is (`holder_of`), since a
+/// write that waits for another transaction, or comes too late, leaves no group and so cleans nothing, while this one
+/// is made in the cleaned block.
+fn prepare<S: Store>(store: &mut S, ask: &Ask<'_>, group: &mut Group) -> Result<Xid, AttemptFault>
+    requires going { S.failed store.old ≡ false }
+    requires table { (1 ≤ ask.now.table) × (ask.now.table ≤ (S.shape_of store.old).tables) }
+    requires short { IsShort ask.now.op }
+    requires own { (x : Xid) → ask.now.own ≡ Some x
+        → (x.seg < (S.shape_of store.old).segments) × (x.slot < SLOTS) }
+    ensures logs { Logs S.Store store.old store.new [] (not (has_failed result)) }
+    ensures there { IfOk result (λ x. (x.seg < (S.shape_of store.old).segments) × (x.slot < SLOTS)) }
+    ensures some { OnOk result (0 < length group.new) }
+    ensures within { OnOk result (AreWithin (S.shape_of store.old) group.new) }
+    ensures made { S.tells → AreYoung (S.shape_of store.old) (S.blocks store.old)
+        → IfOk result (IsMade (S.shape_of store.old) (S.blocks store.old)
+        (after_group (logged_of (S.shape_of store.old) (S.blocks store.old) + 1) group.new (S.blocks store.old))
+        ask.now) }
+    ensures takes { S.tells → AreYoung (S.shape_of store.old) (S.blocks store.old)
+        → OnOk result (TakesWrite (home_for (S.shape_of store.old) (S.blocks store.old) ask.now)
+        (adds_row ask.now.op) ask.now.key) }
+    ensures cause { S.tells → AreYoung (S.shape_of store.old) (S.blocks store.old)
+        → MayWrite (S.shape_of store.old) (S.blocks store.old) ask.now.own → has_failed result ≡ false
+        → IfErr result (HasCause (S.shape_of store.old) (S.blocks store.old) ask.now (S.lsn store.old)) }
+    ensures numbers { OnOk result (S.lsn store.old < WORN) }
+{
+    let shape = store.shape();
+    let block = shape.home_block(ask.table, ask.key);
+    let mut home = [0; UNIT];
+    *group = Group::new();
+    clean_home(store, block, &mut home, group)?;
+    let cell = cell_for(&home, ask)?;
+    let mut header = [0; UNIT];
+    let xid = writer(store, ask.own, &mut header, group)?;
+    let Some(entry) = choose(&home, xid) else {
+        return Err(AttemptFault::SlotsFull);
+    };
+    let place = Place { block, entry, cell };
+    put_change(&home, &mut header, &shape, ask, xid, place, group)?;
+    if store.logged() >= WORN {
+        return Err(AttemptFault::WornOut);
+    }
+    Ok(xid)
+}
+
+/// Writes a key of a table by one group, or refuses to and logs none. The transaction runs, or takes a table slot of
+/// the segment with the fewest that run. Its block is cleaned; the change takes a slot entry and a cell of it, and what
+/// they were is kept in an undo record. The tests come in this order: whether the key has a row, a cell for an insert,
+/// an entry, room for the record, and the log's numbers. `Failed` only where a call of the store failed. What `group`
+/// holds afterwards is open. In a damaged file, where the transaction doesn't run or no table slot is idle, it is
+/// `RollbackFull`. The key is no other transaction's. (Oracle7 Server Concepts, *Rollback Segments*.)
+pub fn attempt<S: Store>(
+    store: &mut S,
+    ask: &Ask<'_>,
+    group: &mut Group,
+) -> Result<Xid, AttemptFault>
+    requires going { S.failed store.old ≡ false }
+    requires table { (1 ≤ ask.now.table) × (ask.now.table ≤ (S.shape_of store.old).tables) }
+    requires short { IsShort ask.now.op }
+    requires own { (x : Xid) → ask.now.own ≡ Some x
+        → (x.seg < (S.shape_of store.old).segments) × (x.slot < SLOTS) }
+    ensures logs { (patches : List Patch)
+        × Logs S.Store store.old store.new (group_of patches) (not (has_failed result)) }
+    ensures refused { has_failed result ≡ false → OnErr result (Logs S.Store store.old store.new [] true) }
+    ensures there { IfOk result (λ x. (x.seg < (S.shape_of store.old).segments) × (x.slot < SLOTS)) }
+    ensures group { S.tells → S.lsn store.old ≡ logged_of (S.shape_of store.old) (S.blocks store.old)
+        → AreYoung (S.shape_of store.old) (S.blocks store.old)
+        → (patches : List Patch) × Logs S.Store store.old store.new (group_of patches) (not (has_failed result))
+        × MakesIfAny (S.shape_of store.old) (S.blocks store.old) ask.now (S.lsn store.old) patches }
+    ensures written { S.tells → S.lsn store.old ≡ logged_of (S.shape_of store.old) (S.blocks store.old)
+        → AreYoung (S.shape_of store.old) (S.blocks store.old)
+        → IfOk result (λ x. (address : Uba) × (u : UndoRecord) × (ready : Header)
+        × IsWriterOf (S.shape_of store.old) (S.blocks store.old) ask.now.own x ready
+        × (u.table ≡ ask.now.table) × (u.key ≡ ask.now.key) × (u.wrap ≡ x.wrap)
+        × (u.home ≡ home_block (S.shape_of store.old) ask.now.table ask.now.key)
+        × IsWritten (S.shape_of store.old) (16 * x.seg + x.slot) (adds_row ask.now.op) (kind_of ask.now.op) address u
+        (S.blocks store.old) (S.blocks store.new)) }
+    ensures takes { S.tells → AreYoung (S.shape_of store.old) (S.blocks store.old)
+        → OnOk result (TakesWrite (home_for (S.shape_of store.old) (S.blocks store.old) ask.now)
+        (adds_row ask.now.op) ask.now.key) }
+    ensures cause { S.tells → AreYoung (S.shape_of store.old) (S.blocks store.old)
+        → MayWrite (S.shape_of store.old) (S.blocks store.old) ask.now.own → has_failed result ≡ false
+        → IfErr result (λ fault. (x : Xid) × (ready : Header)
+        × IsWriterOf (S.shape_of store.old) (S.blocks store.old) ask.now.own x ready
+        × Refuses fault (home_for (S.shape_of store.old) (S.blocks store.old) ask.now) (adds_row ask.now.op)
+        ask.now.key x ready (S.lsn store.old)) }
+    ensures numbers { OnOk result (S.lsn store.old < WORN) }
+{
+    let xid = prepare(store, ask, group)?;
+    store.apply(group)?;
+    Ok(xid)
+}
