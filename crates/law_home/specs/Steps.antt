@@ -3,8 +3,8 @@ use Rattle.std.specs.Prelude.{◌≡◌, ◌⊎◌, ◌<◌, ◌≤◌, ℕ, zer
 use Rattle.std.specs.Prelude.{length, map, Some}
 use Rattle.rb_model.specs.Change.{Place}
 use Rattle.law_home.specs.Kinds.{Status, Free, Open, Exact, Bound, Entry, Cell, Empty, Row, Stub, Undo}
-use Rattle.law_home.specs.Walk.{Change, Commit, Home, Env, Rows, Walk, Tree, Distinct, Unique, OldCommits, own, entry_at}
-use Rattle.law_home.specs.Walk.{cell_at, lock_of, taken, IsActive, behind}
+use Rattle.law_home.specs.Walk.{Change, Commit, Home, Env, Rows, Walk, Tree, Distinct, Unique, OldCommits, own}
+use Rattle.law_home.specs.Walk.{entry_at, cell_at, lock_of, taken, IsActive, behind}
 use Rattle.rb_base.specs.declared.ids.Xid.{Xid}
 use Rattle.rb_txntable.specs.declared.looks.Look.{Look}
 use Rattle.rb_txntable.specs.declared.looks.Look.TheVariants.{Active, At, Before}

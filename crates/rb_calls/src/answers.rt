@@ -6,7 +6,7 @@ ghost use Rattle.rb_model.specs.Answers.{answer_of, write_answer, plain_answer, 
 ghost use Rattle.rb_model.specs.Answers.{marks_answer};
 ghost use Rattle.rb_model.specs.Calls.{is_disk_fault as is_fault_of_disk, is_fault};
 
-use rb_model::{Outcome, Fetched, Marks, Refusal, Row, Wrote};
+use rb_model::{Fetched, Marks, Outcome, Refusal, Row, Wrote};
 
 /// The answer of a write.
 pub fn answer_to_write(outcome: Result<Wrote, Refusal>) -> Outcome

@@ -23,12 +23,12 @@ use crate::checks::check_write;
 use crate::late::check_late;
 use crate::memory::Memory;
 use crate::queue::wait_for;
-use rb_write::{Ask, AttemptFault, holder_of};
 use rb_base::{Group, Store};
 use rb_cr::Scratch;
 use rb_model::{Op, Refusal, Wrote};
 use rb_sessions::Pending;
 use rb_steps::write_step;
+use rb_write::{Ask, AttemptFault, holder_of};
 
 /// What a write that wasn't made is refused by. Where a call of the store failed, the engine is stopped.
 fn refusal(memory: &mut Memory, fault: AttemptFault) -> Refusal

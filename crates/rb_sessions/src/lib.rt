@@ -3,16 +3,16 @@
 #![tactic(auto)]
 
 mod cursor;
-mod row;
 mod isolation;
 mod named;
 mod pending;
+mod row;
 mod savepoint;
 mod sessions;
 
 pub use cursor::Cursor;
-pub use row::Session;
 pub use isolation::{isolation_at, snapshot_at};
 pub use pending::{Pending, PendingOp};
+pub use row::Session;
 pub use savepoint::SAVEPOINTS;
 pub use sessions::{SESSIONS, Sessions};

@@ -9,8 +9,8 @@ ghost use Rattle.rb_sessions.specs.Kept as kept;
 ghost use Rattle.rb_sessions.specs.Kept.{asked_of_pending, fresh, kept_at, with_kept};
 
 use crate::cursor::{CURSORS, Cursor};
-use crate::row::{SessionRow, Session};
 use crate::pending::Pending;
+use crate::row::{Session, SessionRow};
 use crate::savepoint::SAVEPOINTS;
 use rb_base::Xid;
 use rb_model::{Isolation, Name};

@@ -13,8 +13,8 @@ ghost use Rattle.law_blocks.specs.Standing.{logged_of};
 ghost use Rattle.rb_model.specs.Answers.{action_by};
 ghost use Rattle.rb_steps.specs.Steps.{refusal_of, IsAbout, MayWrite};
 
-use rb_write::{Ask, AttemptFault, attempt};
 use rb_base::{Group, SLOTS, Store, WORN, Xid};
+use rb_write::{Ask, AttemptFault, attempt};
 
 /// Writes a key of a table for a session, whose transaction has the id that is asked with, if it has a table slot. The
 /// answer is the transaction's id, or why nothing is written. `Failed` only where a call of the store failed. What

@@ -2,10 +2,10 @@
 //! a key then.
 use crate::cell::reads;
 use crate::writers::{Writers, copy_of};
-use rb_write::{AttemptFault, holder_of};
 use rb_base::{Shape, Store, Xid};
 use rb_cell::{ROW, STUB};
 use rb_model::Op;
+use rb_write::{AttemptFault, holder_of};
 use std::test::Fail;
 
 /// Two tables of one block each, 0 and 1, and two segments.

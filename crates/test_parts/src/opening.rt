@@ -2,8 +2,8 @@
 use crate::sound::{SHAPE, patch, running};
 use crate::writers::copy_of;
 use rb_base::{OpenFault, Store};
-use rb_recovery::open_blocks;
 use rb_plainstore::PlainStore;
+use rb_recovery::open_blocks;
 use rb_txntable::{ENDED, slot_at};
 use std::test::Fail;
 

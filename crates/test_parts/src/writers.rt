@@ -6,12 +6,12 @@ ghost use Rattle.std.specs.List.{AllByRecursion};
 ghost use Rattle.rb_base.specs.Blocks.{IsShape};
 
 use crate::segment::live_of;
-use rb_write::{Ask, AttemptFault, attempt};
 use rb_base::{BlockNo, Failed, Group, NoMemory, SLOTS, Scn, Shape, Store, UNIT, VALUE_BYTES, Xid};
 use rb_model::Op;
 use rb_plainstore::PlainStore;
 use rb_script::{Command, Request, parse};
 use rb_segment::commit;
+use rb_write::{Ask, AttemptFault, attempt};
 use std::alloc::Global;
 
 /// A table of two blocks, 0 of the even keys and 1 of the odd ones, and a segment: its header, 2, and undo blocks 3 to
