@@ -31,6 +31,18 @@ slot_below l head k lt le = elim (cases_lt (head.slot + k) l.log) [
   | inr high ↦ omega (arith, slot_high l head k high, high, lt, le)
 ]
 
+-- two places of one lap have two slots
+pub slots_differ : (l : Layout) (head : Head) (j k : ℕ) → head.slot < l.log → j < k → k < l.log
+    → slot_of l head j ≢ slot_of l head k
+slots_differ l head j k lt less le same = elim (cases_lt (head.slot + k) l.log) [
+  | inl low ↦ absurd (omega (arith, slot_low l head k low, slot_low l head j (omega (arith, low, less)), same, less))
+  | inr high ↦
+      elim (cases_lt (head.slot + j) l.log) [
+        | inl low ↦ absurd (omega (arith, slot_high l head k high, slot_low l head j low, same, less, le, high))
+        | inr also ↦ absurd (omega (arith, slot_high l head k high, slot_high l head j also, same, less, high, also))
+      ]
+]
+
 -- places behind one whose slots don't pass the end stand side by side, and slot 0 follows the last one
 pub slot_on : (l : Layout) (head : Head) (at i : ℕ) → head.slot < l.log → slot_of l head at + i < l.log
     → slot_of l head (at + i) ≡ slot_of l head at + i
@@ -254,3 +266,19 @@ moved_log l head file k i (group ∷ groups) slot few shut log = (
       (subst (λ (j : ℕ). gate_of l head file (k + j) ≢ 1) (omega arith) shut)
       (subst (λ (j : ℕ). GroupsAre l head file j groups) (omega arith) log.2),
 )
+
+pub released_log : (l : Layout) (head : Head) (file : List ℕ) (k : ℕ) (groups : List (List Patch))
+    → head.slot < l.log → k ≤ length groups → gate_of l head file (length groups) ≢ 1
+    → GroupsAre l head file 0 groups → GroupsAre l (head_at l head k) file 0 (drop k groups)
+released_log l head file k groups slot le shut log =
+    let few = few_groups l head file 0 groups (omega (arith, slot)) log in
+    let long = length-drop k groups in
+    moved_log l head file k 0 (drop k groups) slot (omega (arith, few, long, le))
+    (subst (λ (i : ℕ). gate_of l head file i ≢ 1) (omega (arith, long, le)) shut)
+    (subst (λ (i : ℕ). GroupsAre l head file i (drop k groups)) (omega arith)
+    (rest_log l head file 0 k groups le log))
+  where
+    length-drop : (n : ℕ) (gs : List (List Patch)) → length (drop n gs) ≡ length gs - n
+    length-drop zero gs = omega arith
+    length-drop (suc n) [] = omega arith
+    length-drop (suc n) (g ∷ gs) = let rest = length-drop n gs in omega (arith, rest)
