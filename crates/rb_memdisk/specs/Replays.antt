@@ -454,3 +454,13 @@ all_keep i byte images file (call ∷ calls) written out ok has each c left =
     (All-tail (IsUnreached i) call calls out) both.1
     (read_keeps i byte file call written (All-head (IsUnreached i) call calls out) both.0 has)
     (images_keep i byte images file call (All-head (IsUnreached i) call calls out) has each) c left
+
+-- After a sync, and calls of which no write reaches a place, each image has the synced byte there.
+pub unreached_stays : (synced : List ℕ) (calls : List Call) (written : List ℕ) (i : ℕ)
+    → fits synced calls written ≡ true → i < length synced → All (IsUnreached i) calls
+    → (c : List ℕ) → images_after_all (λ d. d ≡ synced) synced calls written c
+    → get_or c i 0 ≡ get_or synced i 0
+unreached_stays synced calls written i ok within out c left =
+    let here : HasAt i (get_or synced i 0) synced = record { within = within; is = refl } in
+    (all_keep i (get_or synced i 0) (λ d. d ≡ synced) synced calls written out ok here
+    (λ d is. subst (λ (e : List ℕ). HasAt i (get_or synced i 0) e) (sym is) here) c left).is
