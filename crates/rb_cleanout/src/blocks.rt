@@ -16,7 +16,7 @@ ghost use Rattle.rb_txntable.specs.declared.looks.Look.{Look};
 
 use crate::entries::clean_entries;
 use crate::locks::clear_locks;
-use rb_base::{BlockNo, Failed, GROUP_BYTES, GROUP_PATCHES, Group, Store, UNIT, copy_of};
+use rb_base::{BlockNo, Failed, GROUP_BYTES, GROUP_PATCHES, Group, Store, UNIT};
 use rb_itl::{ENTRIES, OPEN, entry};
 
 /// The most patches that a cleaning adds to a group: one for each entry and one for each lock.
@@ -84,10 +84,13 @@ pub fn plan_clean<S: Store>(store: &mut S, no: BlockNo) -> Result<Option<Group>,
         ≡ home_of (block_of (S.blocks store.old) no))) }
     ensures whole { S.tells → OnOk result (AreBlocks (S.shape_of store.old) (S.blocks store.old)) }
 {
-    let mut copy = copy_of(store, no)?;
-    if !has_open(&copy) {
+    store.load(no)?;
+    // A fetch asks this for each row, so nothing is copied where nothing is Open.
+    if !has_open(store.block()) {
         return Ok(None);
     }
+    let mut copy = [0; UNIT];
+    copy.copy_from_slice(store.block());
     let mut group = Group::new();
     clean_copy(store, no, &mut copy, &mut group)?;
     if group.patches() == 0 {

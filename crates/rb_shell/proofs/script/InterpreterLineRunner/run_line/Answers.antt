@@ -1,4 +1,4 @@
-use Rattle.rb_shell.proofs.script.InterpreterLineRunner.step.Goals as goal
+use Rattle.rb_shell.proofs.script.InterpreterLineRunner.run_line.Goals as goal
 
 pub returns-clause-did : goal.returns-clause-did
 returns-clause-did g c = λ m is going.
