@@ -4,6 +4,7 @@ use Rattle.std.proofs.lemmas.Bool.{cases_eq}
 use Rattle.std.proofs.lemmas.Bool.Decides.{nat_tests}
 use Rattle.std.proofs.lemmas.List.{drop_at, drop-drop, drop-take, length-append, take_at, take-take, take-append-drop}
 use Rattle.std.specs.List.{AllByRecursion}
+use Rattle.rb_base.specs.declared.sizes.TheConstants.{UNIT}
 use Rattle.byteorder.specs.Endian.{big_bytes}
 use Rattle.byteorder.specs.Numbers.{length-bytes_high_first}
 use Rattle.rb_base.specs.Blocks.{block_of, after_patch, after_group, after_groups, shape_blocks, written_to, StaysBehind, AreBlocks}
@@ -69,7 +70,7 @@ none_written which (p ∷ ps) y none =
     none_of false c is = is
 
 -- a number written first, or last
-pub written_numbered : (n which : ℕ) (ps : List Patch) (y : List ℕ) → length y ≡ 2048 → AllByRecursion StaysBehind ps
+pub written_numbered : (n which : ℕ) (ps : List Patch) (y : List ℕ) → length y ≡ UNIT → AllByRecursion StaysBehind ps
     → written_to which ps (with_number y 0 8 n) ≡ with_number (written_to which ps y) 0 8 n
 written_numbered n which [] y long stay = refl
 written_numbered n which (p ∷ ps) y long stay =
@@ -83,12 +84,12 @@ written_numbered n which (p ∷ ps) y long stay =
     swap true = let behind = stay.0.behind_head in apart_numbered n p.at y p.bytes (omega (arith, behind)) within
     swap false = refl
 
-    still : (b : Bool) → length (if b then overwritten y p.at p.bytes else y) ≡ 2048
+    still : (b : Bool) → length (if b then overwritten y p.at p.bytes else y) ≡ UNIT
     still true = length-overwritten y p.at p.bytes within ∙ long
     still false = long
 
 -- the rest of a group over a block that its first patches have numbered
-rest_numbered : (n which : ℕ) (ps : List Patch) (y : List ℕ) → length y ≡ 2048 → AllByRecursion StaysBehind ps
+rest_numbered : (n which : ℕ) (ps : List Patch) (y : List ℕ) → length y ≡ UNIT → AllByRecursion StaysBehind ps
     → after_block n ps which (with_number y 0 8 n) ≡ numbered_by n ps which y
 rest_numbered n which ps y long stay = by (has_block which ps) refl
   where
@@ -106,7 +107,7 @@ module _ (shape : Shape) (n which : ℕ) where
       x : List ℕ
       x = block_of blocks which
 
-      long : length (block_of blocks which) ≡ 2048
+      long : length (block_of blocks which) ≡ UNIT
       long = block_long shape blocks which are there
 
       own : p.block ≡ which → block_of (after_patch n p blocks) which ≡ with_number (overwritten (block_of blocks which) p.at p.bytes) 0 8 n

@@ -3,6 +3,7 @@ use Rattle.std.proofs.Common.{◌≡◌, ◌≢◌, ℕ, zero, suc, ◌+◌, ◌
 use Rattle.std.proofs.lemmas.Bool.{cases_lt}
 use Rattle.std.proofs.lemmas.List.{length-set, set_past, get_or-set_same, get_or-set_other}
 use Rattle.std.specs.List.{AllByRecursion}
+use Rattle.rb_base.specs.declared.sizes.TheConstants.{UNIT}
 use Rattle.byteorder.specs.Endian.{big_bytes}
 use Rattle.rb_base.specs.Blocks.{shape_blocks, block_of, patched, after_patch, after_group, fresh_block, fresh_from, AreBlocks}
 use Rattle.rb_base.specs.Fields.{overwritten}
@@ -12,13 +13,13 @@ use Rattle.rb_base.proofs.Each.{all_at, all_set}
 use Rattle.rb_base.proofs.Overwriting.{length-overwritten}
 
 abbrev IsUnit : List ℕ → Type 0
-IsUnit block = length block ≡ 2048
+IsUnit block = length block ≡ UNIT
 
-pub block_long : (shape : Shape) (blocks : List (List ℕ)) (which : ℕ) → AreBlocks shape blocks → which < shape_blocks shape → length (block_of blocks which) ≡ 2048
+pub block_long : (shape : Shape) (blocks : List (List ℕ)) (which : ℕ) → AreBlocks shape blocks → which < shape_blocks shape → length (block_of blocks which) ≡ UNIT
 block_long shape blocks which are lt = all_at IsUnit blocks which [] are.each (omega (arith, are.count, lt))
 
 -- a patch within its block leaves it a unit
-pub patched_long : (number : ℕ) (p : Patch) (block : List ℕ) → length block ≡ 2048 → p.at + length p.bytes ≤ 2048 → length (patched number p block) ≡ 2048
+pub patched_long : (number : ℕ) (p : Patch) (block : List ℕ) → length block ≡ UNIT → p.at + length p.bytes ≤ UNIT → length (patched number p block) ≡ UNIT
 patched_long number p block long within =
     let written = length-overwritten block p.at p.bytes (omega (arith, long, within)) in
     length-overwritten (overwritten block p.at p.bytes) 0 (big_bytes 8 number) (omega (arith, long, written)) ∙ written ∙ long
@@ -45,7 +46,7 @@ group_count number [] blocks = refl
 group_count number (p ∷ group) blocks = group_count number group (after_patch number p blocks) ∙ patch_count number p blocks
 
 -- where it is within its block, each block stays a unit
-pub patch_keeps : (shape : Shape) (number : ℕ) (p : Patch) (blocks : List (List ℕ)) → AreBlocks shape blocks → p.at + length p.bytes ≤ 2048 → AreBlocks shape (after_patch number p blocks)
+pub patch_keeps : (shape : Shape) (number : ℕ) (p : Patch) (blocks : List (List ℕ)) → AreBlocks shape blocks → p.at + length p.bytes ≤ UNIT → AreBlocks shape (after_patch number p blocks)
 patch_keeps shape number p blocks are within =
     let now = patched number p (block_of blocks p.block) in
     record {

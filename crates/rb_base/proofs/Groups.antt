@@ -3,6 +3,7 @@ use Rattle.std.proofs.Common.{◌≡◌, ℕ, ◌+◌, ◌<◌, ◌≤◌, List,
 use Rattle.std.proofs.lemmas.List.{take_all, drop_at, take-append-le, drop-append-le, length-drop, length-append, length_push, map_push}
 use Rattle.std.proofs.lemmas.List.Sums.{sum_by_push}
 use Rattle.std.specs.List.{AllByRecursion}
+use Rattle.rb_base.specs.declared.sizes.TheConstants.{GROUP_BYTES, GROUP_PATCHES}
 use Rattle.rb_base.specs.Fields.{part}
 use Rattle.rb_base.proofs.Each.{all_push, all_so}
 use Rattle.rb_base.specs.Groups.{Patch, patch, patch_length, group_length, IsPatch, IsGroup}
@@ -40,15 +41,15 @@ patches_pushed bytes more heads block at start count h e f =
 pub length_pushed : (patches : List Patch) (p : Patch) → group_length (patches ++ p ∷ []) ≡ group_length patches + patch_length p
 length_pushed patches p = let e = sum_by_push patch_length patches p in omega (arith, e)
 
-pub group_pushed : (patches : List Patch) (p : Patch) → IsGroup patches → IsPatch p → length patches < 40 → group_length patches + patch_length p ≤ 2000 → IsGroup (patches ++ p ∷ [])
+pub group_pushed : (patches : List Patch) (p : Patch) → IsGroup patches → IsPatch p → length patches < GROUP_PATCHES → group_length patches + patch_length p ≤ GROUP_BYTES → IsGroup (patches ++ p ∷ [])
 group_pushed patches p h valid few room = record {
   few = omega (arith, length_push patches p);
   each = all_push IsPatch patches p h.each valid;
   within = omega (arith, length_pushed patches p);
 }
 
-pub kept_pushed : (bytes more : List ℕ) (heads : List Head) (block at start count : ℕ) → IsKept bytes heads → IsPatch (patch block at more) → length (patches_of bytes heads) < 40
-    → group_length (patches_of bytes heads) + (8 + length more) ≤ 2000 → start ≡ length bytes → count ≡ length more → IsKept (bytes ++ more) (heads ++ head_of block at start count ∷ [])
+pub kept_pushed : (bytes more : List ℕ) (heads : List Head) (block at start count : ℕ) → IsKept bytes heads → IsPatch (patch block at more) → length (patches_of bytes heads) < GROUP_PATCHES
+    → group_length (patches_of bytes heads) + (8 + length more) ≤ GROUP_BYTES → start ≡ length bytes → count ≡ length more → IsKept (bytes ++ more) (heads ++ head_of block at start count ∷ [])
 kept_pushed bytes more heads block at start count h valid few room e f =
     let pushed = patches_pushed bytes more heads block at start count h.each_within e f in
     record {

@@ -2,6 +2,7 @@
 use Rattle.std.proofs.Common.{◌≡◌, ◌≢◌, ℕ, ◌+◌, ◌^◌, ◌<◌, ◌≤◌, List, [], ◌∷◌, ◌++◌, length, take, drop, refl, arith, ap, sym, ◌∙◌}
 use Rattle.std.proofs.lemmas.List.{length-append, length-drop, length-take-le, take-append-drop, drop-drop, append-nil}
 use Rattle.std.specs.List.{flat_map}
+use Rattle.rb_base.specs.declared.sizes.TheConstants.{GROUP_BYTES, GROUP_PATCHES}
 use Rattle.byteorder.specs.Endian.{big_bytes}
 use Rattle.rb_base.specs.Fields.{number_at}
 use Rattle.rb_base.specs.Groups.{Patch, patch, group_length, IsPatch}
@@ -70,7 +71,7 @@ pub read_ended : (count : ℕ) (bytes : List ℕ) (held : List Patch) (rest : Li
 read_ended count bytes held rest fits h patches s =
     (front_ended patch_bytes IsPatch count bytes held rest patch_apart fits h patches (few_patches patches s.valid) s.valid.each s.whole).1
 
-pub read_found : (count : ℕ) (bytes : List ℕ) (held : List Patch) (rest : List ℕ) → length bytes ≤ 2000 → 0 < count → count ≤ 40 → IsRead count bytes count held rest → rest ≡ [] → SpellsGroup bytes held
+pub read_found : (count : ℕ) (bytes : List ℕ) (held : List Patch) (rest : List ℕ) → length bytes ≤ GROUP_BYTES → 0 < count → count ≤ GROUP_PATCHES → IsRead count bytes count held rest → rest ≡ [] → SpellsGroup bytes held
 read_found count bytes held rest long some few h empty =
     let f = read_fits count bytes count held rest h in
     let c = h.counts in
@@ -82,7 +83,7 @@ read_found count bytes held rest long some few h empty =
     }
 
 -- how long a group's spelling is
-pub spelled_length : (bytes : List ℕ) (patches : List Patch) → SpellsGroup bytes patches → (2 ≤ length bytes) × (length bytes ≤ 2000)
+pub spelled_length : (bytes : List ℕ) (patches : List Patch) → SpellsGroup bytes patches → (2 ≤ length bytes) × (length bytes ≤ GROUP_BYTES)
 spelled_length bytes patches s =
     let e = ap length s.whole in
     let l = length-group patches in

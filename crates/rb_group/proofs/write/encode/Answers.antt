@@ -1,11 +1,12 @@
 use Rattle.std.proofs.Common.{◌≡◌, ◌+◌, ◌<◌, ◌≤◌, length, take, get_or, arith, refl}
+use Rattle.rb_base.specs.declared.sizes.TheConstants.{GROUP_BYTES}
 use Rattle.byteorder.specs.Endian.{big_bytes}
 use Rattle.rb_base.specs.Groups.{patch, group_length}
 use Rattle.rb_group.proofs.Spelling.{made}
 use Rattle.rb_group.proofs.Writing.{length_more, length_within, patch_next}
 use Rattle.rb_group.proofs.write.encode.Goals as goal
 
-room : (c : goal.After-patch_bytes) → group_length (take c.loop-i.i c.args.group.now) + (8 + length c.patch_bytes.result.now) ≤ 2000
+room : (c : goal.After-patch_bytes) → group_length (take c.loop-i.i c.args.group.now) + (8 + length c.patch_bytes.result.now) ≤ GROUP_BYTES
 room c =
     let i = c.loop-i.i in
     let ps = c.args.group.now in
