@@ -2,6 +2,7 @@
 -- most its log number.
 use Rattle.std.proofs.Common.{◌≤◌, ◌/◌, ◌%◌, ℕ, List, arith}
 use Rattle.std.proofs.Math.Nat.{div-add-mod}
+use Rattle.rb_base.specs.declared.sizes.TheConstants.{SLOTS}
 use Rattle.rb_base.specs.declared.ids.Xid.{Xid}
 use Rattle.rb_base.specs.declared.shape.Shape.{Shape}
 use Rattle.rb_model.specs.State.{State}
@@ -18,5 +19,5 @@ blocks_as h xids blocks stand = record { tell = stand.tell; stands = stand.stand
 -- each slot's newest is at most the log number
 pub commit_logged : (shape : Shape) (blocks : List (List ℕ)) (past : Past) (lives : List (List Change)) → Standing shape blocks past lives → commit_scn shape blocks ≤ logged_of shape blocks
 commit_logged shape blocks past lives stand = scn_least shape blocks (logged_of shape blocks) (λ t t_in.
-    let a = div-add-mod t 16 in
-    ((stand.stands.in_order (t / 16) (omega (arith, a, t_in))).numbers.slots (t % 16) (omega arith)).newest)
+    let a = div-add-mod t SLOTS in
+    ((stand.stands.in_order (t / SLOTS) (omega (arith, a, t_in))).numbers.slots (t % SLOTS) (omega arith)).newest)

@@ -1,7 +1,11 @@
 -- A cleaning of a block of rows leaves what the blocks of a file stand for.
-use Rattle.std.proofs.Common.{◌≡◌, ◌≢◌, ◌<◌, ◌+◌, ◌%◌, inl, inr, ℕ, List, map, get_or, sym, ◌∙◌, ap, subst, arith}
+use Rattle.std.proofs.Common.{◌*◌, ◌≡◌, ◌≢◌, ◌<◌, ◌+◌, ◌%◌, inl, inr, ℕ, List, map, get_or, sym, ◌∙◌, ap, subst, arith}
 use Rattle.std.proofs.lemmas.Bool.{cases_eq}
 use Rattle.std.specs.List.{range_with_len}
+use Rattle.rb_undoblock.specs.declared.record.TheConstants.{UNDO_RECORDS}
+use Rattle.rb_ring.specs.declared.extents.TheConstants.{EXTENTS, EXTENT_RECORDS}
+use Rattle.rb_itl.specs.declared.slots.TheConstants.{ENTRIES}
+use Rattle.rb_cell.specs.declared.cell.TheConstants.{CELLS}
 use Rattle.rb_base.specs.Blocks.{block_of, greatest, header_block, table_blocks, IsShape}
 use Rattle.rb_base.specs.declared.shape.Shape.{Shape}
 use Rattle.rb_cell.specs.Cells as cells_of
@@ -39,9 +43,9 @@ module _ (shape : Shape) (before now : List (List ℕ)) (past : Past) (lives : L
   one_segment : (g : ℕ) → segments_of shape now g ≡ segments_of shape before g
   unfolding segment_of
   one_segment g =
-      let undo : (λ (i : ℕ). undo_at (block_of now (undo_block shape g i)) (i % 10)) ≡ (λ (i : ℕ). undo_at (block_of before (undo_block shape g i)) (i % 10)) = λ j i. ap (λ (l : List ℕ). undo_at l (i % 10)) (undo_stays g i) j in
-      ap (λ (h : List ℕ). record { header = header_of h; undo = map (λ i. undo_at (block_of now (undo_block shape g i)) (i % 10)) (range_with_len 0 320) }) (header_stays g)
-      ∙ ap (λ (f : ℕ → UndoRecord). record { header = header_of (block_of before (header_block shape g)); undo = map f (range_with_len 0 320) }) undo
+      let undo : (λ (i : ℕ). undo_at (block_of now (undo_block shape g i)) (i % UNDO_RECORDS)) ≡ (λ (i : ℕ). undo_at (block_of before (undo_block shape g i)) (i % UNDO_RECORDS)) = λ j i. ap (λ (l : List ℕ). undo_at l (i % UNDO_RECORDS)) (undo_stays g i) j in
+      ap (λ (h : List ℕ). record { header = header_of h; undo = map (λ i. undo_at (block_of now (undo_block shape g i)) (i % UNDO_RECORDS)) (range_with_len 0 (EXTENTS * EXTENT_RECORDS)) }) (header_stays g)
+      ∙ ap (λ (f : ℕ → UndoRecord). record { header = header_of (block_of before (header_block shape g)); undo = map f (range_with_len 0 (EXTENTS * EXTENT_RECORDS)) }) undo
 
   pub segments_same : segments_of shape now ≡ segments_of shape before
   segments_same = λ j g. one_segment g j
@@ -67,10 +71,10 @@ module _ (shape : Shape) (before now : List (List ℕ)) (past : Past) (lives : L
   values = standing_cleaned shape (commit_scn shape before) (logged_of shape before) (segments_of shape before) (homes_of shape before) past lives stand.stands (homes_of shape now) b home_is home_stays
 
   -- each entry and each cell of the cleaned block
-  entry_is : (i : ℕ) → i < 8 → itl.entry_at New i ≡ home_entry (Cleaned shape before past lives stand b b_in) i
+  entry_is : (i : ℕ) → i < ENTRIES → itl.entry_at New i ≡ home_entry (Cleaned shape before past lives stand b b_in) i
   entry_is i few = sym (entry_read New i itl.free_entry few) ∙ ap (λ (h : Home). get_or h.entries i itl.free_entry) clean.home
 
-  cell_is : (c : ℕ) → c < 16 → cells_of.cell_at New c ≡ home_cell (Cleaned shape before past lives stand b b_in) c
+  cell_is : (c : ℕ) → c < CELLS → cells_of.cell_at New c ≡ home_cell (Cleaned shape before past lives stand b b_in) c
   cell_is c few = sym (cell_read New c empty_cell few) ∙ ap (λ (h : Home). get_or h.cells c empty_cell) clean.home
 
   here_stands : HomeStands (says shape (segments_of shape before)) (λ g. (segments_of shape before g).header.writes) past.base (Rattle.law_blocks.specs.Values.rows_here shape b past.rows) (map (Rattle.law_home.specs.Homes.narrow b) past.list) (map (Rattle.law_home.specs.Homes.here b) lives) (homes_of shape now b)

@@ -2,6 +2,7 @@
 use Rattle.std.proofs.Common.{◌≡◌, inl, inr, ◌<◌, ◌≤◌, ◌+◌, ◌*◌, ◌/◌, ◌%◌, ℕ, List, [], length, set, refl, sym, ◌∙◌, ap, subst, arith}
 use Rattle.std.proofs.lemmas.Bool.{cases_eq}
 use Rattle.std.proofs.Math.Nat.{div-add-mod}
+use Rattle.rb_base.specs.declared.sizes.TheConstants.{SLOTS}
 use Rattle.rb_base.specs.Blocks.{header_block, shape_blocks, table_blocks}
 use Rattle.rb_base.specs.declared.shape.Shape.{Shape}
 use Rattle.rb_segment.specs.Header.{Segment, slot_in}
@@ -21,22 +22,22 @@ use Rattle.law_blocks.proofs.SegmentRead.{scn_above, scn_least, scn_same, home_s
 use Rattle.law_blocks.proofs.SlotsMoved.{slot_after, slot_other, newest_same, wraps_same, committed_own, committed_other}
 use Rattle.law_blocks.proofs.StandingDone.{standing_committed, running_committed, standing_ended, running_ended}
 
-module _ (shape : Shape) (before now : List (List ℕ)) (past : Past) (lives : List (List Change)) (stand : Standing shape before past lives) (t : ℕ) (t_in : t < 16 * shape.segments) where
+module _ (shape : Shape) (before now : List (List ℕ)) (past : Past) (lives : List (List Change)) (stand : Standing shape before past lives) (t : ℕ) (t_in : t < SLOTS * shape.segments) where
   abbrev Segs : ℕ → Segment
   Segs = segments_of shape before
 
   abbrev S : Segment
-  S = Segs (t / 16)
+  S = Segs (t / SLOTS)
 
   -- the one block that such a group patches
   abbrev Head : ℕ → Type 0
-  Head x = x ≡ header_block shape (t / 16)
+  Head x = x ≡ header_block shape (t / SLOTS)
 
-  g_in : t / 16 < shape.segments
-  g_in = let a = div-add-mod t 16 in omega (arith, a, t_in)
+  g_in : t / SLOTS < shape.segments
+  g_in = let a = div-add-mod t SLOTS in omega (arith, a, t_in)
 
-  slot_within : t % 16 < length S.header.slots
-  slot_within = let a = (stand.stands.in_order (t / 16) g_in).header.slots_counted in omega (arith, a)
+  slot_within : t % SLOTS < length S.header.slots
+  slot_within = let a = (stand.stands.in_order (t / SLOTS) g_in).header.slots_counted in omega (arith, a)
 
   head_within : (b : ℕ) → Head b → b < shape_blocks shape
   head_within b at = omega (arith, at, g_in)
@@ -51,14 +52,14 @@ module _ (shape : Shape) (before now : List (List ℕ)) (past : Past) (lives : L
     segs : segments_of shape now ≡ Done
     segs = segments_committed shape t c before now is
 
-    own_done : slot_of Done t ≡ (let x = slot_in S.header (t % 16) in record x { state = 2; newest = c })
-    own_done = slot_after Segs Done t (with_header (committed c (t % 16) S.header) S) (λ g. refl) ∙ committed_own S (t % 16) c slot_within
+    own_done : slot_of Done t ≡ (let x = slot_in S.header (t % SLOTS) in record x { state = 2; newest = c })
+    own_done = slot_after Segs Done t (with_header (committed c (t % SLOTS) S.header) S) (λ g. refl) ∙ committed_own S (t % SLOTS) c slot_within
 
-    newest_done : (v : ℕ) → v < 16 * shape.segments → (slot_of (segments_of shape now) v).newest ≤ c
+    newest_done : (v : ℕ) → v < SLOTS * shape.segments → (slot_of (segments_of shape now) v).newest ≤ c
     newest_done v v_in = subst (λ (z : ℕ → Segment). (slot_of z v).newest ≤ c) (sym segs) (elim (cases_eq v t) [
       | inl at ↦ let a : (slot_of Done v).newest ≡ c = ap (λ (z : ℕ). (slot_of Done z).newest) at ∙ ap (λ (z : TableSlot). z.newest) own_done in omega (arith, a)
       | inr ne ↦
-          let a : (slot_of Done v).newest ≡ (slot_of Segs v).newest = ap (λ (z : TableSlot). z.newest) (slot_other Segs Done t (with_header (committed c (t % 16) S.header) S) (λ g. refl) (committed_other S (t % 16) c) v ne) in
+          let a : (slot_of Done v).newest ≡ (slot_of Segs v).newest = ap (λ (z : TableSlot). z.newest) (slot_other Segs Done t (with_header (committed c (t % SLOTS) S.header) S) (λ g. refl) (committed_other S (t % SLOTS) c) v ne) in
           let b = scn_above shape before v v_in in
           omega (arith, a, b, next)
     ])
@@ -72,7 +73,7 @@ module _ (shape : Shape) (before now : List (List ℕ)) (past : Past) (lives : L
         omega (arith, low, own, high)
 
     wraps_done : (g i : ℕ) → wraps_of Segs g i ≤ wraps_of Done g i
-    wraps_done g i = let a = wraps_same Segs Done t (with_header (committed c (t % 16) S.header) S) (λ g. refl) (committed_other S (t % 16) c) (ap (λ (z : TableSlot). z.wrap) (committed_own S (t % 16) c slot_within)) g i in omega (arith, a)
+    wraps_done g i = let a = wraps_same Segs Done t (with_header (committed c (t % SLOTS) S.header) S) (λ g. refl) (committed_other S (t % SLOTS) c) (ap (λ (z : TableSlot). z.wrap) (committed_own S (t % SLOTS) c slot_within)) g i in omega (arith, a)
 
     pub commit_moves : (slot_of Segs t).state ≡ 1 → (past2 : Past) (lives2 : List (List Change)) → past2.rows ≡ past.rows → StandingAs shape c (logged_of shape before + 1) Done (homes_of shape before) past2 lives2 → Standing shape now past2 lives2
     commit_moves active past2 lives2 rows stands =
@@ -98,10 +99,10 @@ module _ (shape : Shape) (before now : List (List ℕ)) (past : Past) (lives : L
     pub scn_ended : commit_scn shape now ≡ commit_scn shape before
     scn_ended = scn_same shape before now (λ v v_in.
         ap (λ (z : ℕ → Segment). (slot_of z v).newest) segs_ended
-        ∙ newest_same Segs Ended t (with_header (ended (t % 16) S.header) S) (λ g. refl) (ended_other S (t % 16) slot_within active) (ap (λ (z : TableSlot). z.newest) (ended_slot S (t % 16) slot_within active)) v)
+        ∙ newest_same Segs Ended t (with_header (ended (t % SLOTS) S.header) S) (λ g. refl) (ended_other S (t % SLOTS) slot_within active) (ap (λ (z : TableSlot). z.newest) (ended_slot S (t % SLOTS) slot_within active)) v)
 
     wraps_ended : (g i : ℕ) → wraps_of Segs g i ≤ wraps_of Ended g i
-    wraps_ended g i = let a = wraps_same Segs Ended t (with_header (ended (t % 16) S.header) S) (λ g. refl) (ended_other S (t % 16) slot_within active) (ended_wrap S (t % 16) slot_within active (t % 16)) g i in omega (arith, a)
+    wraps_ended g i = let a = wraps_same Segs Ended t (with_header (ended (t % SLOTS) S.header) S) (λ g. refl) (ended_other S (t % SLOTS) slot_within active) (ended_wrap S (t % SLOTS) slot_within active (t % SLOTS)) g i in omega (arith, a)
 
     pub end_moves : (past2 : Past) (lives2 : List (List Change)) → past2.rows ≡ past.rows → StandingAs shape (commit_scn shape before) (logged_of shape before + 1) Ended (homes_of shape before) past2 lives2 → Standing shape now past2 lives2
     end_moves past2 lives2 rows stands =

@@ -1,5 +1,6 @@
 -- A commit, and the end of a transaction without a change, keep what the blocks of a file stand for with the machine's state.
 use Rattle.std.proofs.Common.{◌≡◌, ◌<◌, ◌+◌, ◌*◌, ◌++◌, ℕ, List, [], ◌∷◌, refl, sym, ◌∙◌, ap, subst, arith}
+use Rattle.rb_base.specs.declared.sizes.TheConstants.{SLOTS}
 use Rattle.rb_base.specs.declared.ids.Xid.{Xid}
 use Rattle.rb_model.specs.State.{State, Cursor, session_own}
 use Rattle.rb_segment.specs.Header.{Segment}
@@ -28,7 +29,7 @@ told_blocks h xids blocks segments are tell standing = record {
   standing = subst (λ (z : ℕ → Segment). Standing h.shape blocks (past_of h xids) (lives_of h (says h.shape z))) (sym are) standing;
 }
 
-module _ (h : State) (xids : List Xid) (before now : List (List ℕ)) (stand : BlocksStand h xids before) (s t : ℕ) (t_in : t < 16 * h.shape.segments) (owns : Owns h s t) where
+module _ (h : State) (xids : List Xid) (before now : List (List ℕ)) (stand : BlocksStand h xids before) (s t : ℕ) (t_in : t < SLOTS * h.shape.segments) (owns : Owns h s t) where
   abbrev Segs : ℕ → Segment
   Segs = segments_of h.shape before
 

@@ -4,6 +4,9 @@ use Rattle.std.proofs.lemmas.Bool.{cases_eq, cases_lt, cond-true, cond-false}
 use Rattle.std.proofs.lemmas.Bool.Decides.{nat_tests}
 use Rattle.std.proofs.lemmas.List.{length-map}
 use Rattle.std.proofs.Math.Nat.{div-add-mod}
+use Rattle.rb_base.specs.declared.sizes.TheConstants.{SLOTS}
+use Rattle.rb_itl.specs.declared.slots.TheConstants.{ENTRIES}
+use Rattle.rb_cell.specs.declared.cell.TheConstants.{CELLS}
 use Rattle.rb_base.specs.Blocks.{block_of, header_block, shape_blocks, table_blocks}
 use Rattle.rb_base.specs.declared.ids.Uba.{Uba}
 use Rattle.rb_base.specs.declared.ids.Xid.{Xid}
@@ -41,12 +44,12 @@ use Rattle.law_home.specs.Steps.{cleaned}
 use Rattle.law_home.specs.Walk.{Change, Home, own}
 use Rattle.law_home.specs.Writes.{written}
 
-module _ (shape : Shape) (before now : List (List ℕ)) (past : Past) (lives : List (List Change)) (stand : Standing shape before past lives) (running : Running shape (segments_of shape before)) (t : ℕ) (t_in : t < 16 * shape.segments) (adds : Bool) (kind : Kind) (address : Uba) (u : UndoRecord) (home_in : u.home < table_blocks shape) (is : IsWritten shape t adds kind address u before now) where
+module _ (shape : Shape) (before now : List (List ℕ)) (past : Past) (lives : List (List Change)) (stand : Standing shape before past lives) (running : Running shape (segments_of shape before)) (t : ℕ) (t_in : t < SLOTS * shape.segments) (adds : Bool) (kind : Kind) (address : Uba) (u : UndoRecord) (home_in : u.home < table_blocks shape) (is : IsWritten shape t adds kind address u before now) where
   abbrev G : ℕ
-  G = t / 16
+  G = t / SLOTS
 
   abbrev I : ℕ
-  I = t % 16
+  I = t % SLOTS
 
   abbrev Segs : ℕ → Segment
   Segs = segments_of shape before
@@ -61,10 +64,10 @@ module _ (shape : Shape) (before now : List (List ℕ)) (past : Past) (lives : L
   Logged = logged_of shape before
 
   abbrev pub Is : ℕ → Type 0
-  Is x = (x ≡ u.home) ⊎ (x ≡ header_block shape (t / 16)) ⊎ (x ≡ address.block)
+  Is x = (x ≡ u.home) ⊎ (x ≡ header_block shape (t / SLOTS)) ⊎ (x ≡ address.block)
 
   g_in : G < shape.segments
-  g_in = let a = div-add-mod t 16 in omega (arith, a, t_in)
+  g_in = let a = div-add-mod t SLOTS in omega (arith, a, t_in)
 
   pub order : SegmentInOrder Commit Logged S
   order = stand.stands.in_order G g_in
@@ -118,7 +121,7 @@ module _ (shape : Shape) (before now : List (List ℕ)) (past : Past) (lives : L
   Cleaned = clean.Cleaned shape before past lives stand u.home home_in
 
   abbrev pub X : Xid
-  X = record { seg = t / 16; slot = t % 16; wrap = u.wrap }
+  X = record { seg = t / SLOTS; slot = t % SLOTS; wrap = u.wrap }
 
   pub keeps : KeepsHome Cleaned (block_of before u.home) X adds kind u
   keeps = subst (λ (z : Xid). KeepsHome Cleaned (block_of before u.home) z adds kind u) is.xid_is is.keeps
@@ -126,16 +129,16 @@ module _ (shape : Shape) (before now : List (List ℕ)) (past : Past) (lives : L
   pub home_now : heap.home_of (block_of now u.home) ≡ home_after kind X address u Cleaned
   home_now = is.home ∙ ap (λ (z : Xid). home_after kind z address u Cleaned) is.xid_is
 
-  pub eight : length Cleaned.entries ≡ 8
+  pub eight : length Cleaned.entries ≡ ENTRIES
   eight = length-map (heap.home_of (block_of before u.home)).entries (cleaned_entry (env_of shape before).look) ∙ entries_counted (block_of before u.home)
 
-  pub sixteen : length Cleaned.cells ≡ 16
+  pub sixteen : length Cleaned.cells ≡ CELLS
   sixteen = length-map (heap.home_of (block_of before u.home)).cells (cleaned_cell (env_of shape before).look (heap.home_of (block_of before u.home))) ∙ cells_counted (block_of before u.home)
 
   undo_xid : (walk_undo shape G u).xid ≡ X
   undo_xid = one_xid (walk_undo shape G u).xid X refl is.recorded.slot refl
 
-  pub cell_few : u.cell < 16
+  pub cell_few : u.cell < CELLS
   cell_few = chosen.cell_few shape u.home Cleaned eight sixteen G X adds kind (block_of before u.home) u keeps undo_xid
 
   abbrev pub Rec : Records S I address u Made

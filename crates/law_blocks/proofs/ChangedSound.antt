@@ -1,7 +1,9 @@
 -- The entry and the cell that a write makes are in order.
-use Rattle.std.proofs.Common.{◌≡◌, ◌<◌, ◌≤◌, ◌%◌, ◌+◌, ◌==◌, ◌||◌, ℕ, suc, Bool, true, false, not, if◌then◌else◌, List, [], ◌∷◌, length, sym, ◌∙◌, arith, refl}
+use Rattle.std.proofs.Common.{◌*◌, ◌≡◌, ◌<◌, ◌≤◌, ◌%◌, ◌+◌, ◌==◌, ◌||◌, ℕ, suc, Bool, true, false, not, if◌then◌else◌, List, [], ◌∷◌, length, sym, ◌∙◌, arith, refl}
 use Rattle.std.proofs.lemmas.Bool.{and_parts, false≢true}
 use Rattle.std.proofs.lemmas.Bool.Decides.{nat_tests}
+use Rattle.rb_base.specs.declared.sizes.TheConstants.{SLOTS}
+use Rattle.rb_ring.specs.declared.extents.TheConstants.{EXTENTS, EXTENT_RECORDS}
 use Rattle.rb_base.specs.declared.ids.Uba.{Uba}
 use Rattle.rb_base.specs.declared.ids.Xid.{Xid}
 use Rattle.rb_base.specs.declared.shape.Shape.{Shape}
@@ -26,7 +28,7 @@ here_few b (ch ∷ more) = by_home (here_few b more) (ch.home == b)
     by_home few false = omega (arith, few)
 
 -- an entry of a transaction whose slot there is, with a chain that the ring has room for
-pub entry_made : (shape : Shape) (commit : ℕ) (wraps : ℕ → ℕ → ℕ) (x : Xid) (address : Uba) (e : entries.Entry) → x.seg < shape.segments → x.slot < 16 → 1 ≤ x.wrap → x.wrap ≤ wraps x.seg x.slot → (entry_after x address e).length ≤ 320 → IsEntrySound shape commit wraps (entry_after x address e)
+pub entry_made : (shape : Shape) (commit : ℕ) (wraps : ℕ → ℕ → ℕ) (x : Xid) (address : Uba) (e : entries.Entry) → x.seg < shape.segments → x.slot < SLOTS → 1 ≤ x.wrap → x.wrap ≤ wraps x.seg x.slot → (entry_after x address e).length ≤ (EXTENTS * EXTENT_RECORDS) → IsEntrySound shape commit wraps (entry_after x address e)
 entry_made shape commit wraps x address e seg slot some given few = record {
   kind = omega arith;
   taken = λ _. record { segment = seg; slot = slot; wrap = (some, given); chain = (counts (e.kind == OPEN), few); number = omega arith };

@@ -3,6 +3,7 @@ use Rattle.std.proofs.Common.{◌≡◌, ◌⊎◌, inl, inr, ◌<◌, ◌/◌, 
 use Rattle.std.proofs.lemmas.Bool.{cases_lt}
 use Rattle.std.proofs.lemmas.Bool.Decides.{nat_tests}
 use Rattle.std.proofs.lemmas.List.{get_or_past}
+use Rattle.rb_base.specs.declared.sizes.TheConstants.{SLOTS}
 use Rattle.rb_base.specs.declared.ids.Xid.{Xid}
 use Rattle.rb_base.specs.declared.shape.Shape.{Shape}
 use Rattle.rb_model.specs.Change.{Kind}
@@ -95,10 +96,10 @@ module _ (w : ℕ → ℕ) (base : ℕ) (rows : Rows) (list : List Commit) (env 
 -- the last id of a slot isn't one to come
 not_last : (segments : ℕ → Segment) (x : Xid) (t : ℕ) → x ≡ xid_by segments t → (slot_in (segments x.seg).header x.slot).wrap < x.wrap → ⊥
 not_last segments x t same above =
-    let seg : x.seg ≡ t / 16 = ap (λ (z : Xid). z.seg) same in
-    let slot : x.slot ≡ t % 16 = ap (λ (z : Xid). z.slot) same in
-    let wrap : x.wrap ≡ (slot_in (segments (t / 16)).header (t % 16)).wrap = ap (λ (z : Xid). z.wrap) same in
-    let here : x.wrap ≡ (slot_in (segments x.seg).header x.slot).wrap = subst (λ (z : ℕ). x.wrap ≡ (slot_in (segments x.seg).header z).wrap) (sym slot) (subst (λ (z : ℕ). x.wrap ≡ (slot_in (segments z).header (t % 16)).wrap) (sym seg) wrap) in
+    let seg : x.seg ≡ t / SLOTS = ap (λ (z : Xid). z.seg) same in
+    let slot : x.slot ≡ t % SLOTS = ap (λ (z : Xid). z.slot) same in
+    let wrap : x.wrap ≡ (slot_in (segments (t / SLOTS)).header (t % SLOTS)).wrap = ap (λ (z : Xid). z.wrap) same in
+    let here : x.wrap ≡ (slot_in (segments x.seg).header x.slot).wrap = subst (λ (z : ℕ). x.wrap ≡ (slot_in (segments x.seg).header z).wrap) (sym slot) (subst (λ (z : ℕ). x.wrap ≡ (slot_in (segments z).header (t % SLOTS)).wrap) (sym seg) wrap) in
     omega (arith, here, above)
 
 -- no entry is of a transaction that is still to come

@@ -5,10 +5,11 @@ use Rattle.std.proofs.lemmas.List.{get_or-map}
 use Rattle.std.proofs.lemmas.Bool.{cases_Bool, cond-true, cond-false}
 use Rattle.std.proofs.lemmas.Bool.Decides.{nat_tests}
 use Rattle.std.specs.List.{AllByRecursion}
+use Rattle.rb_cell.specs.declared.cell.TheConstants.{CELLS}
 use Rattle.rb_base.specs.Blocks.{block_of, table_blocks}
 use Rattle.rb_base.specs.declared.shape.Shape.{Shape}
 use Rattle.rb_base.specs.declared.ids.Xid.{Xid}
-use Rattle.rb_base.specs.declared.sizes.TheConstants.{ACTIVE}
+use Rattle.rb_base.specs.declared.sizes.TheConstants.{ACTIVE, SLOTS}
 use Rattle.rb_cell.specs.declared.cell.Cell as cells
 use Rattle.rb_cell.specs.Cells as cells_of
 use Rattle.rb_heap.specs.Cleaning.{cleaned_home, cleaned_entry, cleaned_cell, cleaned_lock, told_entry}
@@ -17,7 +18,7 @@ use Rattle.rb_heap.specs.Soundness.{IsHomeSound, IsEntrySound, IsCellSound, IsTa
 use Rattle.rb_heap.proofs.Reading.{entries_counted, cells_counted, entry_read, cell_read}
 use Rattle.rb_itl.specs.Entries as itl
 use Rattle.rb_itl.specs.declared.slots.Entry as entries
-use Rattle.rb_itl.specs.declared.slots.TheConstants.{OPEN}
+use Rattle.rb_itl.specs.declared.slots.TheConstants.{ENTRIES, OPEN}
 use Rattle.rb_segment.specs.Header.{HeaderInOrder, slot_in}
 use Rattle.rb_segment.specs.Segments.{commit_scn}
 use Rattle.law_blocks.specs.Says.{says, walk_home}
@@ -52,7 +53,7 @@ slot_few s wrap commit newest before = by_case (nat_lt s.wrap wrap) (s.wrap == w
     by_case false false a false = newest
 
 -- an entry in order is so, cleaned
-entry_fine : (shape : Shape) (commit : ℕ) (wraps : ℕ → ℕ → ℕ) (look : Xid → Look) (e : entries.Entry) → ((x : Xid) → x.seg < shape.segments → x.slot < 16 → LookFew commit (look x)) → IsEntrySound shape commit wraps e
+entry_fine : (shape : Shape) (commit : ℕ) (wraps : ℕ → ℕ → ℕ) (look : Xid → Look) (e : entries.Entry) → ((x : Xid) → x.seg < shape.segments → x.slot < SLOTS → LookFew commit (look x)) → IsEntrySound shape commit wraps e
     → IsEntrySound shape commit wraps (cleaned_entry look e)
 entry_fine shape commit wraps look e few sound = elim (cases_Bool (e.kind == OPEN)) [
   | inl is ↦
@@ -106,7 +107,7 @@ module _ (shape : Shape) (blocks : List (List ℕ)) (past : Past) (lives : List 
   stands_here = stand.stands.homes_stand b b_in
 
   -- what the locks of the block name
-  locked : (c : ℕ) → c < 16 → IsLockedOpen (home_of Old) (cells_of.cell_at Old c)
+  locked : (c : ℕ) → c < CELLS → IsLockedOpen (home_of Old) (cells_of.cell_at Old c)
   locked c few = record {
     unlocked = (block_sound.cells.each c few).unlocked;
     opens = λ i is.
@@ -115,31 +116,31 @@ module _ (shape : Shape) (blocks : List (List ℕ)) (past : Past) (lives : List 
   }
 
   all_locked : AllByRecursion (IsLockedOpen (home_of Old)) (home_of Old).cells
-  all_locked = all_of (IsLockedOpen (home_of Old)) (home_of Old).cells empty_cell (λ c lt. let few : c < 16 = let n = cells_counted Old in omega (arith, n, lt) in subst (IsLockedOpen (home_of Old)) (sym (cell_read Old c empty_cell few)) (locked c few))
+  all_locked = all_of (IsLockedOpen (home_of Old)) (home_of Old).cells empty_cell (λ c lt. let few : c < CELLS = let n = cells_counted Old in omega (arith, n, lt) in subst (IsLockedOpen (home_of Old)) (sym (cell_read Old c empty_cell few)) (locked c few))
 
   -- the home is the walk's
   pub home_walked : walk_home shape b Cleaned ≡ cleaned (env_of shape blocks) (homes_of shape blocks b)
   home_walked = home_cleaned shape (env_of shape blocks) b (home_of Old) all_locked
 
   -- each entry and each cell
-  pub entry_cleaned_is : (i : ℕ) → i < 8 → home_entry Cleaned i ≡ cleaned_entry Looks (itl.entry_at Old i)
+  pub entry_cleaned_is : (i : ℕ) → i < ENTRIES → home_entry Cleaned i ≡ cleaned_entry Looks (itl.entry_at Old i)
   entry_cleaned_is i few =
       get_or-map (cleaned_entry Looks) (home_of Old).entries i itl.free_entry itl.free_entry (let n = entries_counted Old in omega (arith, n, few))
       ∙ ap (cleaned_entry Looks) (entry_read Old i itl.free_entry few)
 
-  pub cell_cleaned_is : (c : ℕ) → c < 16 → home_cell Cleaned c ≡ cleaned_cell Looks (home_of Old) (cells_of.cell_at Old c)
+  pub cell_cleaned_is : (c : ℕ) → c < CELLS → home_cell Cleaned c ≡ cleaned_cell Looks (home_of Old) (cells_of.cell_at Old c)
   cell_cleaned_is c few =
       get_or-map (cleaned_cell Looks (home_of Old)) (home_of Old).cells c empty_cell empty_cell (let n = cells_counted Old in omega (arith, n, few))
       ∙ ap (cleaned_cell Looks (home_of Old)) (cell_read Old c empty_cell few)
 
-  looks_few : (x : Xid) → x.seg < shape.segments → x.slot < 16 → LookFew Commit (Looks x)
+  looks_few : (x : Xid) → x.seg < shape.segments → x.slot < SLOTS → LookFew Commit (Looks x)
   looks_few x seg slot =
       let order : HeaderInOrder Commit (segments_of shape blocks x.seg).header = (stand.stands.in_order x.seg seg).header in
       let s = order.slots x.slot slot in
       slot_few (slot_in (segments_of shape blocks x.seg).header x.slot) x.wrap Commit s.newest s.before
 
-  pub entry_in_order : (i : ℕ) → i < 8 → IsEntrySound shape Commit Wraps (home_entry Cleaned i)
+  pub entry_in_order : (i : ℕ) → i < ENTRIES → IsEntrySound shape Commit Wraps (home_entry Cleaned i)
   entry_in_order i few = subst (IsEntrySound shape Commit Wraps) (sym (entry_cleaned_is i few)) (entry_fine shape Commit Wraps Looks (itl.entry_at Old i) looks_few (block_sound.entries i few))
 
-  pub cell_in_order : (c : ℕ) → c < 16 → IsCellSound shape (b % shape.blocks) (home_cell Cleaned c)
+  pub cell_in_order : (c : ℕ) → c < CELLS → IsCellSound shape (b % shape.blocks) (home_cell Cleaned c)
   cell_in_order c few = subst (IsCellSound shape (b % shape.blocks)) (sym (cell_cleaned_is c few)) (cell_fine shape (b % shape.blocks) Looks (home_of Old) (cells_of.cell_at Old c) (block_sound.cells.each c few))

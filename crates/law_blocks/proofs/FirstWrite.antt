@@ -1,8 +1,10 @@
 -- A write in a new file's home, so what is asked of a write can be met.
-use Rattle.std.proofs.Common.{◌≡◌, ◌≢◌, inl, inr, ◌<◌, ◌≤◌, ◌==◌, ◌-◌, ◌^◌, ◌/◌, ◌%◌, ℕ, zero, suc, false, if◌then◌else◌, List, [], ◌∷◌, get_or, replicate, Some, None, refl, sym, ◌∙◌, ap, arith}
+use Rattle.std.proofs.Common.{◌*◌, ◌≡◌, ◌≢◌, inl, inr, ◌<◌, ◌≤◌, ◌==◌, ◌-◌, ◌^◌, ◌/◌, ◌%◌, ℕ, zero, suc, false, if◌then◌else◌, List, [], ◌∷◌, get_or, replicate, Some, None, refl, sym, ◌∙◌, ap, arith}
 use Rattle.std.proofs.lemmas.Bool.Decides.{nat_tests}
 use Rattle.std.proofs.lemmas.List.{length-replicate}
 use Rattle.std.proofs.Math.Nat.{div-eq_of_lt, zero-div}
+use Rattle.rb_base.specs.declared.sizes.TheConstants.{SLOTS}
+use Rattle.rb_ring.specs.declared.extents.TheConstants.{EXTENTS, EXTENT_RECORDS}
 use Rattle.rb_base.specs.Addresses.{no_uba}
 use Rattle.rb_base.specs.Blocks.{IsShape}
 use Rattle.rb_base.specs.declared.ids.Uba.{Uba}
@@ -40,7 +42,7 @@ abbrev segments : ℕ → Segment
 segments g = fresh_segment
 
 abbrev homes : ℕ → Home
-homes b = record { block = b; entries = replicate 8 unused; cells = replicate 16 Empty }
+homes b = record { block = b; entries = replicate 8 unused; cells = replicate SLOTS Empty }
 
 abbrev sessions : List Session
 sessions = no_session ∷ []
@@ -93,9 +95,9 @@ free_entries (suc n) (suc j) = free_entries n j
 fresh : IsFresh one_each segments homes
 fresh = record {
   headers = λ g g_in. refl;
-  undo = λ g g_in. length-replicate 320 no_undo;
+  undo = λ g g_in. length-replicate (EXTENTS * EXTENT_RECORDS) no_undo;
   entries = λ b i b_in. free_entries 8 i;
-  cells = λ b j b_in. all_same Empty 16 j;
+  cells = λ b j b_in. all_same Empty SLOTS j;
 }
 
 idle : (s : ℕ) → session_own (fresh_state one_each sessions) s ≡ []
@@ -170,7 +172,7 @@ is_written = record {
       within = omega arith;
       cell = omega arith;
       own = inr (refl, λ j mine. let free = free_entries 8 j in let wrong : Free ≡ Open = sym free ∙ mine.0 in cc);
-      fresh = inr (refl, λ j has. let none : taken (get_or (replicate 16 Empty) j Empty) ≡ None = ap taken (all_same Empty 16 j) in let wrong : None ≡ Some 7 = sym none ∙ has in cc);
+      fresh = inr (refl, λ j has. let none : taken (get_or (replicate SLOTS Empty) j Empty) ≡ None = ap taken (all_same Empty SLOTS j) in let wrong : None ≡ Some 7 = sym none ∙ has in cc);
       lock = inl refl;
     };
   };

@@ -1,5 +1,8 @@
 -- A new file stands, also for the machine's first state; so the definitions can be met.
 use Rattle.std.proofs.Common.{◌≡◌, ◌<◌, ◌≤◌, ◌≢◌, ◌+◌, inl, inr, ◌==◌, ◌*◌, ◌/◌, ◌%◌, Some, ℕ, Bool, true, false, if◌then◌else◌, List, [], length, map, Option, None, refl, sym, ◌∙◌, ap, subst, arith}
+use Rattle.rb_cell.specs.declared.cell.TheConstants.{CELLS}
+use Rattle.rb_base.specs.declared.sizes.TheConstants.{SLOTS}
+use Rattle.rb_ring.specs.declared.extents.TheConstants.{EXTENTS, EXTENT_RECORDS}
 use Rattle.rb_base.specs.declared.shape.Shape.{Shape}
 use Rattle.rb_segment.specs.Books.{fresh_header, fresh_segment}
 use Rattle.rb_segment.specs.Header.{Header, Segment, HeaderInOrder, SegmentInOrder, SlotNumbers, head_turn, slot_in}
@@ -47,29 +50,29 @@ home_fresh env made rows lives b none no_row free empty = record {
 }
 
 -- a segment with the header of a new file
-order_fresh : (s : Segment) → s.header ≡ fresh_header → length s.undo ≡ 320 → SegmentInOrder 0 0 s
+order_fresh : (s : Segment) → s.header ≡ fresh_header → length s.undo ≡ (EXTENTS * EXTENT_RECORDS) → SegmentInOrder 0 0 s
 order_fresh s is undo = let n = fresh_order.numbers in record {
   header = subst (λ (z : Header). HeaderInOrder 0 z) (sym is) fresh_order.header;
   undo_counted = undo;
   numbers = record {
     writes = subst (λ (z : Header). z.writes ≤ 0) (sym is) n.writes;
     records = λ k r has. let m = made_of s k r has in let none = ap (λ (z : Header). z.writes) is in absurd (omega (arith, m.0, m.1, none));
-    count = subst (λ (z : Header). z.writes + 80 ≡ 40 * head_turn z + z.records) (sym is) n.count;
+    count = subst (λ (z : Header). z.writes + 2 * EXTENT_RECORDS ≡ EXTENT_RECORDS * head_turn z + z.records) (sym is) n.count;
     begun = subst (λ (z : Header). z.records ≡ 0 → z.writes ≡ 0) (sym is) n.begun;
-    slots = subst (λ (z : Header). (i : ℕ) → i < 16 → SlotNumbers 0 z.lost (slot_in z i)) (sym is) n.slots;
+    slots = subst (λ (z : Header). (i : ℕ) → i < SLOTS → SlotNumbers 0 z.lost (slot_in z i)) (sym is) n.slots;
   };
 }
 
 -- a new file of any shape
 module _ (shape : Shape) (segments : ℕ → Segment) (homes : ℕ → Home) (is : IsFresh shape segments homes) where
-  slot_fresh : (t : ℕ) → t < 16 * shape.segments → slot_of segments t ≡ no_slot
-  slot_fresh t t_in = let a = div-add-mod t 16 in ap (λ (z : Header). slot_in z (t % 16)) (is.headers (t / 16) (omega (arith, a, t_in))) ∙ fresh_slot (t % 16)
+  slot_fresh : (t : ℕ) → t < SLOTS * shape.segments → slot_of segments t ≡ no_slot
+  slot_fresh t t_in = let a = div-add-mod t SLOTS in ap (λ (z : Header). slot_in z (t % SLOTS)) (is.headers (t / SLOTS) (omega (arith, a, t_in))) ∙ fresh_slot (t % SLOTS)
 
   -- no slot of it runs
-  idle_fresh : (t : ℕ) → t < 16 * shape.segments → (slot_of segments t).state ≢ 1
+  idle_fresh : (t : ℕ) → t < SLOTS * shape.segments → (slot_of segments t).state ≢ 1
   idle_fresh t t_in active = let a = ap (λ (z : TableSlot). z.state) (slot_fresh t t_in) in omega (arith, a, active)
 
-  pub fresh_stands : (lives : List (List Change)) → length lives ≡ 16 * shape.segments → AllEmpty lives → StandingAs shape 0 0 segments homes no_past lives
+  pub fresh_stands : (lives : List (List Change)) → length lives ≡ SLOTS * shape.segments → AllEmpty lives → StandingAs shape 0 0 segments homes no_past lives
   fresh_stands lives counted none = record {
     slots_counted = counted;
     number = refl;
@@ -95,7 +98,7 @@ module _ (shape : Shape) (segments : ℕ → Segment) (homes : ℕ → Home) (is
     book_is g = all_same fresh_book shape.segments g
 
     unowned : (t : ℕ) → owner_at First t ≡ None
-    unowned t = ap (λ (z : Book). slot_owner z (t % 16)) (book_is (t / 16)) ∙ ap (λ (z : BookSlot). z.owner) (all_same free_slot 16 (t % 16))
+    unowned t = ap (λ (z : Book). slot_owner z (t % SLOTS)) (book_is (t / SLOTS)) ∙ ap (λ (z : BookSlot). z.owner) (all_same free_slot SLOTS (t % SLOTS))
 
     pub nobody : (s t : ℕ) → Owns First s t → ⊥
     nobody s t owns = let none = unowned t in let some : owner_at First t ≡ Some owns.owner = owns.at in cc
@@ -103,11 +106,11 @@ module _ (shape : Shape) (segments : ℕ → Segment) (homes : ℕ → Home) (is
     abbrev Fresh : Env
     Fresh = says shape segments
 
-    counted : length (lives_of First Fresh) ≡ 16 * shape.segments
+    counted : length (lives_of First Fresh) ≡ SLOTS * shape.segments
     counted = lives_counted First Fresh
 
     empty : AllEmpty (lives_of First Fresh)
-    empty t = elim (cases_lt t (16 * shape.segments)) [
+    empty t = elim (cases_lt t (SLOTS * shape.segments)) [
       | inl t_in ↦ lives_at First Fresh t t_in ∙ ap (owned First (Fresh.xid t)) (unowned t)
       | inr past ↦ get_or_past (lives_of First Fresh) t [] (omega (arith, past, counted))
     ]
@@ -136,7 +139,7 @@ module _ (shape : Shape) (segments : ℕ → Segment) (homes : ℕ → Home) (is
 pub fresh_met : (shape : Shape) → IsFresh shape (λ g. fresh_segment) fresh_home
 fresh_met shape = record {
   headers = λ g g_in. refl;
-  undo = λ g g_in. length-replicate 320 no_undo;
+  undo = λ g g_in. length-replicate (EXTENTS * EXTENT_RECORDS) no_undo;
   entries = λ b i b_in. ap (λ (z : Entry). z.status) (all_same free_entry 8 i);
-  cells = λ b j b_in. all_same Empty 16 j;
+  cells = λ b j b_in. all_same Empty CELLS j;
 }

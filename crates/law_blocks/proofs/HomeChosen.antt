@@ -5,17 +5,18 @@ use Rattle.std.proofs.Math.ListN as lists
 use Rattle.std.proofs.lemmas.List.{get_or-map, length-map, map-set}
 use Rattle.std.proofs.lemmas.Bool.{cases_Bool, cases_lt, and_parts, and_from, cond-true, cond-false, false≢true}
 use Rattle.std.proofs.lemmas.Bool.Decides.{nat_tests}
+use Rattle.rb_base.specs.declared.sizes.TheConstants.{SLOTS}
 use Rattle.rb_base.specs.declared.ids.Uba.{Uba}
 use Rattle.rb_base.specs.declared.ids.Xid.{Xid}
 use Rattle.rb_base.specs.declared.shape.Shape.{Shape}
 use Rattle.rb_cell.specs.declared.cell.Cell as cells
-use Rattle.rb_cell.specs.declared.cell.TheConstants.{EMPTY, ROW}
+use Rattle.rb_cell.specs.declared.cell.TheConstants.{CELLS, EMPTY, ROW}
 use Rattle.rb_heap.specs.Choices.{HasNoEntry, IsOwnEntry}
 use Rattle.rb_heap.specs.Homes.{Home, empty_cell, home_cell, home_entry, is_free, is_keyed}
 use Rattle.rb_heap.specs.Soundness.{IsCellSound}
 use Rattle.rb_itl.specs.Entries.{free_entry}
 use Rattle.rb_itl.specs.declared.slots.Entry as entries
-use Rattle.rb_itl.specs.declared.slots.TheConstants.{BOUND, EXACT, OPEN}
+use Rattle.rb_itl.specs.declared.slots.TheConstants.{BOUND, ENTRIES, EXACT, OPEN}
 use Rattle.rb_model.specs.Change.{Gone, Held, Kind, Put}
 use Rattle.law_blocks.specs.Says.{place_of, status_of, walk_cell, walk_entry, walk_home, walk_undo}
 use Rattle.law_blocks.specs.Writes.{Chooses}
@@ -87,11 +88,11 @@ cell_changed Held key i x held = by_state (x.state == ROW) (x.state == EMPTY) (i
     by_state false false false l is = let k = held refl in rw k (ap (Stub key) (omega arith))
 
 -- a home with as many entries and cells as a block has
-module _ (shape : Shape) (n : ℕ) (home : Home) (eight : length home.entries ≡ 8) (sixteen : length home.cells ≡ 16) where
+module _ (shape : Shape) (n : ℕ) (home : Home) (eight : length home.entries ≡ ENTRIES) (sixteen : length home.cells ≡ CELLS) where
   abbrev Walked : walk.Home
   Walked = walk_home shape n home
 
-  entry_walked : (i : ℕ) → i < 8 → walk.entry_at Walked i ≡ walk_entry shape (home_entry home i)
+  entry_walked : (i : ℕ) → i < ENTRIES → walk.entry_at Walked i ≡ walk_entry shape (home_entry home i)
   entry_walked i few = get_or-map (walk_entry shape) home.entries i free_entry walk.free_entry (omega (arith, eight, few))
 
   cell_walked : (c : ℕ) → walk.cell_at Walked c ≡ walk_cell (home_cell home c)
@@ -110,7 +111,7 @@ module _ (shape : Shape) (n : ℕ) (home : Home) (eight : length home.entries �
     same_number : (a b : ℕ) → (a == b) ≡ true → a ≡ b
     same_number a b is = grind (arith, nat_tests)
 
-    pub cell_few : u.cell < 16
+    pub cell_few : u.cell < CELLS
     cell_few = elim keeps.cell.way [ inl first ↦ first.within | inr free ↦ free.2.within ]
 
     -- a row that is held has its key
@@ -130,26 +131,26 @@ module _ (shape : Shape) (n : ℕ) (home : Home) (eight : length home.entries �
         ap (λ (l : List kinds.Entry). let h : walk.Home = record { block = n; entries = l; cells = map walk_cell (set home.cells u.cell c) } in h) (map-set (walk_entry shape) home.entries u.entry e ∙ ap (set (map (walk_entry shape) home.entries) u.entry) entry)
         ∙ ap (λ (l : List kinds.Cell). let h : walk.Home = record { block = n; entries = set (map (walk_entry shape) home.entries) u.entry (new_entry R.entry_before R.xid (place_of shape address)); cells = l } in h) (map-set walk_cell home.cells u.cell c ∙ ap (set (map walk_cell home.cells) u.cell) cell)
 
-    own_walked : (i : ℕ) → i < 8 → IsOwnEntry x (home_entry home i) → IsOwn x (walk.entry_at Walked i)
+    own_walked : (i : ℕ) → i < ENTRIES → IsOwnEntry x (home_entry home i) → IsOwn x (walk.entry_at Walked i)
     own_walked i few own = subst (IsOwn x) (sym (entry_walked i few)) (status_open (home_entry home i).kind (home_entry home i).number own.0, own.1)
 
-    own_back : (i : ℕ) → i < 8 → IsOwn x (walk.entry_at Walked i) → IsOwnEntry x (home_entry home i)
+    own_back : (i : ℕ) → i < ENTRIES → IsOwn x (walk.entry_at Walked i) → IsOwnEntry x (home_entry home i)
     own_back i few own = let mine : IsOwn x (walk_entry shape (home_entry home i)) = subst (IsOwn x) (entry_walked i few) own in (open_kind (home_entry home i).kind (home_entry home i).number mine.0, mine.1)
 
-    entries_walked : length Walked.entries ≡ 8
+    entries_walked : length Walked.entries ≡ ENTRIES
     entries_walked = length-map home.entries (walk_entry shape) ∙ eight
 
-    cells_walked : length Walked.cells ≡ 16
+    cells_walked : length Walked.cells ≡ CELLS
     cells_walked = length-map home.cells walk_cell ∙ sixteen
 
     no_own : HasNoEntry (IsOwnEntry x) (home_entry home) → (j : ℕ) → j < length Walked.entries → IsOwn x (walk.entry_at Walked j) → ⊥
-    no_own none j lt mine = let few : j < 8 = omega (arith, lt, entries_walked) in none j few (own_back j few mine)
+    no_own none j lt mine = let few : j < ENTRIES = omega (arith, lt, entries_walked) in none j few (own_back j few mine)
 
     not_open : E.kind ≢ OPEN → is_open (walk.entry_at Walked u.entry).status ≡ false
     not_open other = ap (λ (z : kinds.Entry). is_open z.status) (entry_walked u.entry keeps.entry.within) ∙ (open_is E.kind E.number ∙ grind (arith, nat_tests))
 
     -- what the walk asks of the choice
-    pub chooses : (h : ℕ) → u.home ≡ n → ((c : ℕ) → c < 16 → IsCellSound shape h (home_cell home c)) → IsNotHeld home x u.key → Chooses kind R x Walked
+    pub chooses : (h : ℕ) → u.home ≡ n → ((c : ℕ) → c < CELLS → IsCellSound shape h (home_cell home c)) → IsNotHeld home x u.key → Chooses kind R x Walked
     chooses h at_home sound free_of = record {
       xid = xid;
       here = at_home;
@@ -169,7 +170,7 @@ module _ (shape : Shape) (n : ℕ) (home : Home) (eight : length home.entries �
         | inl first ↦ inl (ap taken (cell_walked u.cell) ∙ keyed_taken u.key C first.passes)
         | inr free ↦ inr (
           ap taken (cell_walked u.cell) ∙ free_taken shape h C (sound u.cell cell_few) free.2.passes,
-          λ j lt has. let few : j < 16 = omega (arith, lt, cells_walked) in false≢true (sym (free.1 j few) ∙ taken_keyed u.key (home_cell home j) (ap taken (sym (cell_walked j)) ∙ has)),
+          λ j lt has. let few : j < SLOTS = omega (arith, lt, cells_walked) in false≢true (sym (free.1 j few) ∙ taken_keyed u.key (home_cell home j) (ap taken (sym (cell_walked j)) ∙ has)),
         )
       ];
       waits_not = λ i has lock.
@@ -177,8 +178,8 @@ module _ (shape : Shape) (n : ℕ) (home : Home) (eight : length home.entries �
           own_walked i (there i own.0) own;
     }
       where
-        there : (i : ℕ) → (home_entry home i).kind ≡ OPEN → i < 8
-        there i is_open = elim (cases_lt i 8) [
+        there : (i : ℕ) → (home_entry home i).kind ≡ OPEN → i < ENTRIES
+        there i is_open = elim (cases_lt i ENTRIES) [
           | inl few ↦ few
           | inr many ↦
               let out : (home_entry home i).kind ≡ 0 = ap (λ (e : entries.Entry). e.kind) (lists.get_or-eq_default home.entries free_entry (omega (arith, eight, many))) in

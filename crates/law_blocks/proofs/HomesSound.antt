@@ -65,17 +65,17 @@ module _ (shape : Shape) (block : List ℕ) where
   abbrev home : walk.Home
   home = walk_home shape 0 (home_of block)
 
-  pub cell_here : (c : ℕ) → c < 16 → walk.cell_at home c ≡ walk_cell (cells_of.cell_at block c)
+  pub cell_here : (c : ℕ) → c < CELLS → walk.cell_at home c ≡ walk_cell (cells_of.cell_at block c)
   cell_here c few = lists.get_or-map walk_cell (home_of block).cells c empty_cell ∙ ap walk_cell (cell_read block c empty_cell few)
 
-  pub entry_here : (i : ℕ) → i < 8 → walk.entry_at home i ≡ walk_entry shape (itl.entry_at block i)
+  pub entry_here : (i : ℕ) → i < ENTRIES → walk.entry_at home i ≡ walk_entry shape (itl.entry_at block i)
   entry_here i few =
       get_or-map (walk_entry shape) (home_of block).entries i itl.free_entry walk.free_entry (let l = entries_counted block in omega (arith, l, few))
       ∙ ap (walk_entry shape) (entry_read block i itl.free_entry few)
 
   -- an entry that is Open is one of the eight
-  pub open_here : (i : ℕ) → (walk.entry_at home i).status ≡ Open → (i < 8) × ((itl.entry_at block i).kind ≡ OPEN)
-  open_here i is = elim (cases_lt i 8) [
+  pub open_here : (i : ℕ) → (walk.entry_at home i).status ≡ Open → (i < ENTRIES) × ((itl.entry_at block i).kind ≡ OPEN)
+  open_here i is = elim (cases_lt i ENTRIES) [
     | inl few ↦ (few, open_kind (itl.entry_at block i).kind (itl.entry_at block i).number (ap (λ (e : Entry). e.status) (sym (entry_here i few)) ∙ is))
     | inr many ↦
         let l = entries_counted block in
@@ -103,7 +103,7 @@ module _ (shape : Shape) (block : List ℕ) where
     };
   }
     where
-      lock_fine : (c : ℕ) → c < 16 → (lock : ℕ) → walk.lock_of (walk.cell_at home c) ≡ lock → IsLock block lock
+      lock_fine : (c : ℕ) → c < CELLS → (lock : ℕ) → walk.lock_of (walk.cell_at home c) ≡ lock → IsLock block lock
       lock_fine c few zero is = record { few = omega arith; taken = λ some. absurd (some refl) }
       lock_fine c few (suc i) is =
           let open_at = open_here i (locks i c is) in

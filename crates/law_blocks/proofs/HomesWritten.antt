@@ -2,6 +2,7 @@
 use Rattle.std.proofs.Common.{◌≡◌, ◌≢◌, ◌<◌, inl, inr, ◌/◌, ℕ, List, [], ◌∷◌, length, set, map, Some, sym, ◌∙◌, ap, subst, arith}
 use Rattle.std.proofs.lemmas.Bool.{cases_eq}
 use Rattle.std.proofs.lemmas.List.{set-get_or}
+use Rattle.rb_base.specs.declared.sizes.TheConstants.{SLOTS}
 use Rattle.rb_base.specs.Blocks.{table_blocks}
 use Rattle.rb_base.specs.declared.shape.Shape.{Shape}
 use Rattle.rb_model.specs.Change.{Kind, Place}
@@ -56,7 +57,7 @@ module _ (shape : Shape) (segments after : ℕ → Segment) (past : Past) (lives
 
   -- Slot t writes: its home is cleaned with the looks of before, the segments age and have the record at this place, and then
   -- the home has the change.
-  module _ (homes homes2 : ℕ → Home) (t : ℕ) (kind : Kind) (r : Undo) (place : Place) (t_in : t < length lives) (active : New.look (New.xid t) ≡ Active) (there : New.store place ≡ Some r) (seg : place.seg ≡ t / 16) (reads : Reads kind r (New.xid t) (cleaned Old (homes r.home))) (written_home : homes2 r.home ≡ written kind r place (cleaned Old (homes r.home))) (others : (b : ℕ) → b ≢ r.home → homes2 b ≡ homes b) (stand : HomesStand shape segments homes past lives) where
+  module _ (homes homes2 : ℕ → Home) (t : ℕ) (kind : Kind) (r : Undo) (place : Place) (t_in : t < length lives) (active : New.look (New.xid t) ≡ Active) (there : New.store place ≡ Some r) (seg : place.seg ≡ t / SLOTS) (reads : Reads kind r (New.xid t) (cleaned Old (homes r.home))) (written_home : homes2 r.home ≡ written kind r place (cleaned Old (homes r.home))) (others : (b : ℕ) → b ≢ r.home → homes2 b ≡ homes b) (stand : HomesStand shape segments homes past lives) where
     abbrev pub Longer : List (List Change)
     Longer = set lives t (change_of kind r place ∷ own lives t)
 

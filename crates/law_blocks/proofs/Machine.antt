@@ -3,6 +3,7 @@ use Rattle.std.proofs.Common.{◌≡◌, ◌≢◌, inl, inr, ◌<◌, ◌+◌, 
 use Rattle.std.proofs.lemmas.Bool.{cases_eq}
 use Rattle.std.proofs.lemmas.List.{get_or-set_same, get_or-set_other, length-set, ext_get_or}
 use Rattle.std.proofs.lemmas.List.FromFn.{length-map-range_with_len}
+use Rattle.rb_base.specs.declared.sizes.TheConstants.{SLOTS}
 use Rattle.rb_base.specs.declared.ids.Xid.{Xid}
 use Rattle.rb_base.specs.declared.shape.Shape.{Shape}
 use Rattle.rb_model.specs.State.{State, owner_at}
@@ -23,23 +24,23 @@ commits_more shape n [] (y ∷ xids) changes x before long = absurd (omega (arit
 commits_more shape n (d ∷ list) [] changes x before long = absurd (omega (arith, long))
 commits_more shape n (d ∷ list) (y ∷ xids) changes x before long = commits_more shape (n + 1) list xids changes x (record { xid = y; number = n; changes = newest_first shape y 1 d [] } ∷ before) (omega (arith, long)) ∙ (let same : n + 1 + length list ≡ n + suc (length list) = omega arith in ap (λ (z : ℕ). (let t : Commit = record { xid = x; number = z; changes = newest_first shape x 1 changes [] } in t) ∷ commits_from shape (n + 1) list xids (record { xid = y; number = n; changes = newest_first shape y 1 d [] } ∷ before)) same)
 
-pub lives_counted : (h : State) (env : Env) → length (lives_of h env) ≡ 16 * h.shape.segments
-lives_counted h env = length-map-range_with_len (λ (u : ℕ). owned h (env.xid u) (owner_at h u)) 0 (16 * h.shape.segments)
+pub lives_counted : (h : State) (env : Env) → length (lives_of h env) ≡ SLOTS * h.shape.segments
+lives_counted h env = length-map-range_with_len (λ (u : ℕ). owned h (env.xid u) (owner_at h u)) 0 (SLOTS * h.shape.segments)
 
 -- Where one slot's live changes are these now and every other's are what they were, the list has one place set.
-pub lives_set : (h h2 : State) (env env2 : Env) (t : ℕ) (chs : List Change) → h2.shape ≡ h.shape → t < 16 * h.shape.segments → owned h2 (env2.xid t) (owner_at h2 t) ≡ chs → ((u : ℕ) → u ≢ t → u < 16 * h.shape.segments → owned h2 (env2.xid u) (owner_at h2 u) ≡ owned h (env.xid u) (owner_at h u)) → lives_of h2 env2 ≡ set (lives_of h env) t chs
+pub lives_set : (h h2 : State) (env env2 : Env) (t : ℕ) (chs : List Change) → h2.shape ≡ h.shape → t < SLOTS * h.shape.segments → owned h2 (env2.xid t) (owner_at h2 t) ≡ chs → ((u : ℕ) → u ≢ t → u < SLOTS * h.shape.segments → owned h2 (env2.xid u) (owner_at h2 u) ≡ owned h (env.xid u) (owner_at h u)) → lives_of h2 env2 ≡ set (lives_of h env) t chs
 lives_set h h2 env env2 t chs same t_in here others = ext_get_or [] (lives_of h2 env2) (set (lives_of h env) t chs) long (λ u u_in. at u (omega (arith, u_in, long2)))
   where
     segments : h2.shape.segments ≡ h.shape.segments
     segments = ap (λ (z : Shape). z.segments) same
 
-    long2 : length (lives_of h2 env2) ≡ 16 * h.shape.segments
-    long2 = lives_counted h2 env2 ∙ ap (λ (z : ℕ). 16 * z) segments
+    long2 : length (lives_of h2 env2) ≡ SLOTS * h.shape.segments
+    long2 = lives_counted h2 env2 ∙ ap (λ (z : ℕ). SLOTS * z) segments
 
     long : length (lives_of h2 env2) ≡ length (set (lives_of h env) t chs)
     long = long2 ∙ (sym (lives_counted h env) ∙ sym (length-set (lives_of h env) t chs))
 
-    at : (u : ℕ) → u < 16 * h.shape.segments → get_or (lives_of h2 env2) u [] ≡ get_or (set (lives_of h env) t chs) u []
+    at : (u : ℕ) → u < SLOTS * h.shape.segments → get_or (lives_of h2 env2) u [] ≡ get_or (set (lives_of h env) t chs) u []
     at u u_in = lives_at h2 env2 u (omega (arith, u_in, segments)) ∙ elim (cases_eq u t) [
       | inl is ↦ subst (λ (z : ℕ). owned h2 (env2.xid z) (owner_at h2 z) ≡ get_or (set (lives_of h env) t chs) z []) (sym is) (here ∙ sym (get_or-set_same (lives_of h env) t chs [] (omega (arith, t_in, lives_counted h env))))
       | inr ne ↦ others u ne u_in ∙ (sym (lives_at h env u u_in) ∙ sym (get_or-set_other (lives_of h env) t u chs [] ne))

@@ -3,6 +3,7 @@ use Rattle.std.proofs.Common.{◌≡◌, ◌≢◌, ◌⊎◌, inl, inr, ◌<◌
 use Rattle.std.proofs.lemmas.Bool.{cases_eq}
 use Rattle.std.proofs.lemmas.List.{get_or-set_same, get_or-set_other, length-set}
 use Rattle.std.proofs.Math.Nat.{div-add-mod}
+use Rattle.rb_base.specs.declared.sizes.TheConstants.{SLOTS}
 use Rattle.rb_base.specs.declared.ids.Xid.{Xid}
 use Rattle.rb_model.specs.Book.{Owner, Book, BookSlot, free_slot, fresh_book, book_at, left}
 use Rattle.rb_model.specs.State.{State, Session, no_session, with_changes, session_own, owner_at}
@@ -29,12 +30,12 @@ use Rattle.law_blocks.proofs.StandingWritten.{slot_few}
 use Rattle.law_blocks.proofs.States.{lives_owned}
 use Rattle.rb_model.specs.Change as model
 
-module _ (h : State) (xids : List Xid) (commit logged : ℕ) (segments : ℕ → Segment) (homes : ℕ → Home) (stand : BlocksStandAs h xids commit logged segments homes) (s t : ℕ) (t_in : t < 16 * h.shape.segments) (owns : Owns h s t) where
+module _ (h : State) (xids : List Xid) (commit logged : ℕ) (segments : ℕ → Segment) (homes : ℕ → Home) (stand : BlocksStandAs h xids commit logged segments homes) (s t : ℕ) (t_in : t < SLOTS * h.shape.segments) (owns : Owns h s t) where
   abbrev G : ℕ
-  G = t / 16
+  G = t / SLOTS
 
   abbrev I : ℕ
-  I = t % 16
+  I = t % SLOTS
 
   abbrev Old : Env
   Old = says h.shape segments
@@ -46,7 +47,7 @@ module _ (h : State) (xids : List Xid) (commit logged : ℕ) (segments : ℕ →
   B = book_at h.books G
 
   g_in : G < h.shape.segments
-  g_in = let a = div-add-mod t 16 in omega (arith, a, t_in)
+  g_in = let a = div-add-mod t SLOTS in omega (arith, a, t_in)
 
   book : IsBook S.header B
   book = stand.tell.books G g_in
@@ -96,7 +97,7 @@ module _ (h : State) (xids : List Xid) (commit logged : ℕ) (segments : ℕ →
         mine : owned Next (New.xid t) (owner_at h t) ≡ newest_first h.shape (Old.xid t) 1 front []
         mine = ap (owned Next (New.xid t)) owns.at ∙ (ap (λ (z : ℕ). newest_first h.shape (New.xid t) 1 (session_own Next z) []) owns.session ∙ (ap (λ (z : List model.Change). newest_first h.shape (New.xid t) 1 z []) own_next ∙ ap (λ (z : Xid). newest_first h.shape z 1 front []) (xids_same t)))
 
-        others : (v : ℕ) → v ≢ t → v < 16 * h.shape.segments → owned Next (New.xid v) (owner_at h v) ≡ owned h (Old.xid v) (owner_at h v)
+        others : (v : ℕ) → v ≢ t → v < SLOTS * h.shape.segments → owned Next (New.xid v) (owner_at h v) ≡ owned h (Old.xid v) (owner_at h v)
         others v ne v_in = by (owner_at h v) refl
           where
             by : (o : Option Owner) → owner_at h v ≡ o → owned Next (New.xid v) o ≡ owned h (Old.xid v) o
@@ -162,16 +163,16 @@ module _ (h : State) (xids : List Xid) (commit logged : ℕ) (segments : ℕ →
     owner_gone = ap (λ (z : Book). (get_or z.slots I free_slot).owner) ended_book ∙ ap (λ (z : BookSlot). z.owner) (get_or-set_same B.slots I (let y = get_or B.slots I free_slot in record y { owner = None }) free_slot (let a = slot_few t in omega (arith, a, book.slots)))
 
     owner_still : (v : ℕ) → v ≢ t → owner_at Ended v ≡ owner_at h v
-    owner_still v ne = elim (cases_eq (v / 16) G) [
-      | inr off ↦ ap (λ (z : Book). (get_or z.slots (v % 16) free_slot).owner) (still_book (v / 16) off)
+    owner_still v ne = elim (cases_eq (v / SLOTS) G) [
+      | inr off ↦ ap (λ (z : Book). (get_or z.slots (v % SLOTS) free_slot).owner) (still_book (v / SLOTS) off)
       | inl seg ↦
-          let nj : v % 16 ≢ I = λ is. ne (one_slot v t seg is) in
-          ap (λ (z : ℕ). (get_or (book_at Ended.books z).slots (v % 16) free_slot).owner) seg ∙ (ap (λ (z : Book). (get_or z.slots (v % 16) free_slot).owner) ended_book ∙ (ap (λ (z : BookSlot). z.owner) (get_or-set_other B.slots I (v % 16) (let y = get_or B.slots I free_slot in record y { owner = None }) free_slot nj) ∙ ap (λ (z : ℕ). (get_or (book_at h.books z).slots (v % 16) free_slot).owner) (sym seg)))
+          let nj : v % SLOTS ≢ I = λ is. ne (one_slot v t seg is) in
+          ap (λ (z : ℕ). (get_or (book_at Ended.books z).slots (v % SLOTS) free_slot).owner) seg ∙ (ap (λ (z : Book). (get_or z.slots (v % SLOTS) free_slot).owner) ended_book ∙ (ap (λ (z : BookSlot). z.owner) (get_or-set_other B.slots I (v % SLOTS) (let y = get_or B.slots I free_slot in record y { owner = None }) free_slot nj) ∙ ap (λ (z : ℕ). (get_or (book_at h.books z).slots (v % SLOTS) free_slot).owner) (sym seg)))
     ]
 
     -- each slot keeps its id
     pub wrap_still : (v : ℕ) → Last.xid v ≡ Old.xid v
-    wrap_still v = one_xid (Last.xid v) (Old.xid v) refl refl (by (cases_eq (v / 16) G))
+    wrap_still v = one_xid (Last.xid v) (Old.xid v) refl refl (by (cases_eq (v / SLOTS) G))
       where
         here : (j : ℕ) → (slot_in (ended I S.header) j).wrap ≡ (slot_in S.header j).wrap
         here j = elim (cases_eq j I) [
@@ -179,14 +180,14 @@ module _ (h : State) (xids : List Xid) (commit logged : ℕ) (segments : ℕ →
           | inr ne ↦ ap (λ (z : TableSlot). z.wrap) (get_or-set_other S.header.slots I j (let x = slot_in S.header I in record x { state = 3 }) no_slot ne)
         ]
 
-        by : ((v / 16 ≡ G) ⊎ (v / 16 ≢ G)) → (slot_in (Then (v / 16)).header (v % 16)).wrap ≡ (slot_in (segments (v / 16)).header (v % 16)).wrap
-        by (inr off) = ap (λ (z : Segment). (slot_in z.header (v % 16)).wrap) (off_segment G (v / 16) S3 segments off)
-        by (inl seg) = ap (λ (z : ℕ). (slot_in (Then z).header (v % 16)).wrap) seg ∙ (ap (λ (z : Segment). (slot_in z.header (v % 16)).wrap) (at_segment G S3 segments) ∙ (here (v % 16) ∙ ap (λ (z : ℕ). (slot_in (segments z).header (v % 16)).wrap) (sym seg)))
+        by : ((v / SLOTS ≡ G) ⊎ (v / SLOTS ≢ G)) → (slot_in (Then (v / SLOTS)).header (v % SLOTS)).wrap ≡ (slot_in (segments (v / SLOTS)).header (v % SLOTS)).wrap
+        by (inr off) = ap (λ (z : Segment). (slot_in z.header (v % SLOTS)).wrap) (off_segment G (v / SLOTS) S3 segments off)
+        by (inl seg) = ap (λ (z : ℕ). (slot_in (Then z).header (v % SLOTS)).wrap) seg ∙ (ap (λ (z : Segment). (slot_in z.header (v % SLOTS)).wrap) (at_segment G S3 segments) ∙ (here (v % SLOTS) ∙ ap (λ (z : ℕ). (slot_in (segments z).header (v % SLOTS)).wrap) (sym seg)))
 
     lives_then : lives_of Ended Last ≡ set (lives_of h Old) t []
     lives_then = lives_set h Ended Old Last t [] refl t_in (ap (owned Ended (Last.xid t)) owner_gone) others
       where
-        others : (v : ℕ) → v ≢ t → v < 16 * h.shape.segments → owned Ended (Last.xid v) (owner_at Ended v) ≡ owned h (Old.xid v) (owner_at h v)
+        others : (v : ℕ) → v ≢ t → v < SLOTS * h.shape.segments → owned Ended (Last.xid v) (owner_at Ended v) ≡ owned h (Old.xid v) (owner_at h v)
         others v ne v_in = ap (owned Ended (Last.xid v)) (owner_still v ne) ∙ by (owner_at h v)
           where
             by : (o : Option Owner) → owned Ended (Last.xid v) o ≡ owned h (Old.xid v) o

@@ -1,5 +1,6 @@
 -- A cleaning and a put back over blocks that stand for the machine's state.
 use Rattle.std.proofs.Common.{◌≡◌, ◌<◌, ◌+◌, ◌*◌, ◌/◌, ℕ, List, [], ◌∷◌, ◌++◌, length, set, Some, sym, subst}
+use Rattle.rb_base.specs.declared.sizes.TheConstants.{SLOTS}
 use Rattle.rb_base.specs.Blocks.{table_blocks}
 use Rattle.rb_base.specs.declared.ids.Xid.{Xid}
 use Rattle.rb_model.specs.Change as model
@@ -30,8 +31,8 @@ machine_cleaned h xids before now b b_in next stand clean =
       standing = subst (λ (f : ℕ → Segment). Standing h.shape now (past_of h xids) (lives_of h (says h.shape f))) (sym same) standing;
     }
 
-module _ (h : State) (xids : List Xid) (before now : List (List ℕ)) (s t : ℕ) (u : UndoRecord) (front : List model.Change) (c : model.Change) (t_in : t < 16 * h.shape.segments) (stand : BlocksStand h xids before) (owns : Owns h s t) (own_is : session_own h s ≡ front ++ c ∷ [])
-    (there : record_in (segments_of h.shape before (t / 16)) c.place.index ≡ Some u) (put : IsPutBack h.shape t u before now) where
+module _ (h : State) (xids : List Xid) (before now : List (List ℕ)) (s t : ℕ) (u : UndoRecord) (front : List model.Change) (c : model.Change) (t_in : t < SLOTS * h.shape.segments) (stand : BlocksStand h xids before) (owns : Owns h s t) (own_is : session_own h s ≡ front ++ c ∷ [])
+    (there : record_in (segments_of h.shape before (t / SLOTS)) c.place.index ≡ Some u) (put : IsPutBack h.shape t u before now) where
   abbrev Segs : ℕ → Segment
   Segs = segments_of h.shape before
 

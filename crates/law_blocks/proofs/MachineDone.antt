@@ -4,6 +4,7 @@ use Rattle.std.proofs.lemmas.Bool.{cases_eq, cases_lt}
 use Rattle.std.proofs.lemmas.List.{get_or-set_same, get_or-set_other, length-set, length-append, get_or_append_left}
 use Rattle.std.proofs.Math.Seq.{get_or-append_seam}
 use Rattle.std.proofs.Math.Nat.{div-add-mod}
+use Rattle.rb_base.specs.declared.sizes.TheConstants.{SLOTS}
 use Rattle.rb_base.specs.declared.ids.Xid.{Xid}
 use Rattle.rb_base.specs.declared.shape.Shape.{Shape}
 use Rattle.rb_model.specs.Book.{Owner, Book, BookSlot, free_slot, fresh_book, book_at, finished}
@@ -39,12 +40,12 @@ last_commits shape n list xids before long at = by list xids n before long at
     by (c ∷ list) [] m before long at = absurd (omega (arith, long))
     by (c ∷ list) (x ∷ xids) m before long at = let h : last n (commits_from shape (m + 1 + 1) list xids (record { xid = x; number = m + 1; changes = newest_first shape x 1 c [] } ∷ before)) ≡ m + 1 + length list = by list xids (m + 1) (record { xid = x; number = m + 1; changes = newest_first shape x 1 c [] } ∷ before) (omega (arith, long)) refl in omega (arith, h)
 
-module _ (h : State) (xids : List Xid) (commit logged : ℕ) (segments : ℕ → Segment) (homes : ℕ → Home) (stand : BlocksStandAs h xids commit logged segments homes) (s t : ℕ) (t_in : t < 16 * h.shape.segments) (owns : Owns h s t) (logs : commit ≤ logged) (cursors : List Cursor) where
+module _ (h : State) (xids : List Xid) (commit logged : ℕ) (segments : ℕ → Segment) (homes : ℕ → Home) (stand : BlocksStandAs h xids commit logged segments homes) (s t : ℕ) (t_in : t < SLOTS * h.shape.segments) (owns : Owns h s t) (logs : commit ≤ logged) (cursors : List Cursor) where
   abbrev G : ℕ
-  G = t / 16
+  G = t / SLOTS
 
   abbrev I : ℕ
-  I = t % 16
+  I = t % SLOTS
 
   abbrev Old : Env
   Old = says h.shape segments
@@ -68,7 +69,7 @@ module _ (h : State) (xids : List Xid) (commit logged : ℕ) (segments : ℕ →
   New = says h.shape After
 
   g_in : G < h.shape.segments
-  g_in = let a = div-add-mod t 16 in omega (arith, a, t_in)
+  g_in = let a = div-add-mod t SLOTS in omega (arith, a, t_in)
 
   book : IsBook S.header B
   book = stand.tell.books G g_in
@@ -89,11 +90,11 @@ module _ (h : State) (xids : List Xid) (commit logged : ℕ) (segments : ℕ →
   owner_own = ap (λ (z : Book). (get_or z.slots I free_slot).owner) next_book ∙ ap (λ (z : BookSlot). z.owner) (get_or-set_same B.slots I (record { newest = N; owner = None }) free_slot (let a = slot_few t in omega (arith, a, book.slots)))
 
   owner_other : (v : ℕ) → v ≢ t → owner_at Next v ≡ owner_at h v
-  owner_other v ne = elim (cases_eq (v / 16) G) [
-    | inr off ↦ ap (λ (z : Book). (get_or z.slots (v % 16) free_slot).owner) (other_book (v / 16) off)
+  owner_other v ne = elim (cases_eq (v / SLOTS) G) [
+    | inr off ↦ ap (λ (z : Book). (get_or z.slots (v % SLOTS) free_slot).owner) (other_book (v / SLOTS) off)
     | inl seg ↦
-        let nj : v % 16 ≢ I = λ is. ne (one_slot v t seg is) in
-        ap (λ (z : ℕ). (get_or (book_at Next.books z).slots (v % 16) free_slot).owner) seg ∙ (ap (λ (z : Book). (get_or z.slots (v % 16) free_slot).owner) next_book ∙ (ap (λ (z : BookSlot). z.owner) (get_or-set_other B.slots I (v % 16) (record { newest = N; owner = None }) free_slot nj) ∙ ap (λ (z : ℕ). (get_or (book_at h.books z).slots (v % 16) free_slot).owner) (sym seg)))
+        let nj : v % SLOTS ≢ I = λ is. ne (one_slot v t seg is) in
+        ap (λ (z : ℕ). (get_or (book_at Next.books z).slots (v % SLOTS) free_slot).owner) seg ∙ (ap (λ (z : Book). (get_or z.slots (v % SLOTS) free_slot).owner) next_book ∙ (ap (λ (z : BookSlot). z.owner) (get_or-set_other B.slots I (v % SLOTS) (record { newest = N; owner = None }) free_slot nj) ∙ ap (λ (z : ℕ). (get_or (book_at h.books z).slots (v % SLOTS) free_slot).owner) (sym seg)))
   ]
 
   own_other : (r : ℕ) → r - 1 ≢ s - 1 → session_own Next r ≡ session_own h r
@@ -107,7 +108,7 @@ module _ (h : State) (xids : List Xid) (commit logged : ℕ) (segments : ℕ →
 
   -- each slot keeps its id
   pub xid_same : (v : ℕ) → New.xid v ≡ Old.xid v
-  xid_same v = one_xid (New.xid v) (Old.xid v) refl refl (by (cases_eq (v / 16) G))
+  xid_same v = one_xid (New.xid v) (Old.xid v) refl refl (by (cases_eq (v / SLOTS) G))
     where
       wrap_same : (j : ℕ) → (slot_in (committed N I S.header) j).wrap ≡ (slot_in S.header j).wrap
       wrap_same j = elim (cases_eq j I) [
@@ -115,11 +116,11 @@ module _ (h : State) (xids : List Xid) (commit logged : ℕ) (segments : ℕ →
         | inr ne ↦ ap (λ (z : TableSlot). z.wrap) (get_or-set_other S.header.slots I j (let x = slot_in S.header I in record x { state = 2; newest = N }) no_slot ne)
       ]
 
-      by : ((v / 16 ≡ G) ⊎ (v / 16 ≢ G)) → (slot_in (After (v / 16)).header (v % 16)).wrap ≡ (slot_in (segments (v / 16)).header (v % 16)).wrap
-      by (inr off) = ap (λ (z : Segment). (slot_in z.header (v % 16)).wrap) (off_segment G (v / 16) (with_header (committed N I S.header) S) segments off)
-      by (inl seg) = ap (λ (z : ℕ). (slot_in (After z).header (v % 16)).wrap) seg ∙ (ap (λ (z : Segment). (slot_in z.header (v % 16)).wrap) (at_segment G (with_header (committed N I S.header) S) segments) ∙ (wrap_same (v % 16) ∙ ap (λ (z : ℕ). (slot_in (segments z).header (v % 16)).wrap) (sym seg)))
+      by : ((v / SLOTS ≡ G) ⊎ (v / SLOTS ≢ G)) → (slot_in (After (v / SLOTS)).header (v % SLOTS)).wrap ≡ (slot_in (segments (v / SLOTS)).header (v % SLOTS)).wrap
+      by (inr off) = ap (λ (z : Segment). (slot_in z.header (v % SLOTS)).wrap) (off_segment G (v / SLOTS) (with_header (committed N I S.header) S) segments off)
+      by (inl seg) = ap (λ (z : ℕ). (slot_in (After z).header (v % SLOTS)).wrap) seg ∙ (ap (λ (z : Segment). (slot_in z.header (v % SLOTS)).wrap) (at_segment G (with_header (committed N I S.header) S) segments) ∙ (wrap_same (v % SLOTS) ∙ ap (λ (z : ℕ). (slot_in (segments z).header (v % SLOTS)).wrap) (sym seg)))
 
-  owned_other : (v : ℕ) → v ≢ t → v < 16 * h.shape.segments → owned Next (New.xid v) (owner_at Next v) ≡ owned h (Old.xid v) (owner_at h v)
+  owned_other : (v : ℕ) → v ≢ t → v < SLOTS * h.shape.segments → owned Next (New.xid v) (owner_at Next v) ≡ owned h (Old.xid v) (owner_at h v)
   owned_other v ne v_in = ap (owned Next (New.xid v)) (owner_other v ne) ∙ by (owner_at h v) refl
     where
       by : (o : Option Owner) → owner_at h v ≡ o → owned Next (New.xid v) o ≡ owned h (Old.xid v) o

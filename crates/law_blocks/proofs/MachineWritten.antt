@@ -4,6 +4,7 @@ use Rattle.std.proofs.lemmas.Bool.{cases_eq}
 use Rattle.std.proofs.lemmas.Bool.Decides.{nat_tests}
 use Rattle.std.proofs.lemmas.List.{get_or-set_same, get_or-set_other, length-set}
 use Rattle.std.proofs.Math.Nat.{div-add-mod}
+use Rattle.rb_base.specs.declared.sizes.TheConstants.{SLOTS}
 use Rattle.rb_base.specs.Blocks.{home_block}
 use Rattle.rb_base.specs.declared.ids.Uba.{Uba}
 use Rattle.rb_base.specs.declared.ids.Xid.{Xid}
@@ -50,12 +51,12 @@ marked_own i b within =
     ap (λ (z : BookSlot). z.owner) (get_or-set_same (turned b).slots i (let s = get_or (turned b).slots i free_slot in record s { owner = touches (turn_of ((turned b).writes + 1)) s.owner }) free_slot (subst (λ (z : List BookSlot). i < length z) (sym (turned_slots b)) within))
     ∙ ap (λ (z : List BookSlot). touches (turn_of ((turned b).writes + 1)) (get_or z i free_slot).owner) (turned_slots b)
 
-module _ (h : State) (xids : List Xid) (commit logged : ℕ) (segments : ℕ → Segment) (homes : ℕ → Home) (stand : BlocksStandAs h xids commit logged segments homes) (after : ℕ → Segment) (homes2 : ℕ → Home) (s t : ℕ) (c : model.Change) (kind : Kind) (address : Uba) (u : UndoRecord) (t_in : t < 16 * h.shape.segments) (s_in : (1 ≤ s) × (s ≤ length h.sessions)) (takes : Takes h segments s t) (w : Written h.shape commit segments after homes homes2 (lives_of h (says h.shape segments)) t kind address u) (same : SameChange h.shape c kind address u) where
+module _ (h : State) (xids : List Xid) (commit logged : ℕ) (segments : ℕ → Segment) (homes : ℕ → Home) (stand : BlocksStandAs h xids commit logged segments homes) (after : ℕ → Segment) (homes2 : ℕ → Home) (s t : ℕ) (c : model.Change) (kind : Kind) (address : Uba) (u : UndoRecord) (t_in : t < SLOTS * h.shape.segments) (s_in : (1 ≤ s) × (s ≤ length h.sessions)) (takes : Takes h segments s t) (w : Written h.shape commit segments after homes homes2 (lives_of h (says h.shape segments)) t kind address u) (same : SameChange h.shape c kind address u) where
   abbrev G : ℕ
-  G = t / 16
+  G = t / SLOTS
 
   abbrev I : ℕ
-  I = t % 16
+  I = t % SLOTS
 
   abbrev State0 : ℕ
   State0 = (slot_of segments t).state
@@ -73,9 +74,9 @@ module _ (h : State) (xids : List Xid) (commit logged : ℕ) (segments : ℕ →
   B = book_at h.books G
 
   g_in : G < h.shape.segments
-  g_in = let a = div-add-mod t 16 in omega (arith, a, t_in)
+  g_in = let a = div-add-mod t SLOTS in omega (arith, a, t_in)
 
-  i_few : I < 16
+  i_few : I < SLOTS
   i_few = slot_few t
 
   book : IsBook (segments G).header B
@@ -99,11 +100,11 @@ module _ (h : State) (xids : List Xid) (commit logged : ℕ) (segments : ℕ →
       by false = ap (λ (z : BookSlot). z.owner) (get_or-set_other B.slots I j (let y = get_or B.slots I free_slot in record y { owner = Some (record { session = s; start = B.writes; touched = [] }) }) free_slot ne)
 
   owner_other : (v : ℕ) → v ≢ t → owner_at Next v ≡ owner_at h v
-  owner_other v ne = elim (cases_eq (v / 16) G) [
-    | inr off ↦ ap (λ (z : Book). (get_or z.slots (v % 16) free_slot).owner) (other_book (v / 16) off)
+  owner_other v ne = elim (cases_eq (v / SLOTS) G) [
+    | inr off ↦ ap (λ (z : Book). (get_or z.slots (v % SLOTS) free_slot).owner) (other_book (v / SLOTS) off)
     | inl seg ↦
-        let nj : v % 16 ≢ I = λ is. ne (one_slot v t seg is) in
-        ap (λ (z : ℕ). (get_or (book_at Next.books z).slots (v % 16) free_slot).owner) seg ∙ (ap (λ (z : Book). (get_or z.slots (v % 16) free_slot).owner) next_book ∙ (marked_other I (v % 16) (book_ready s I State0 B) nj ∙ (ready_other (v % 16) nj ∙ ap (λ (z : ℕ). (get_or (book_at h.books z).slots (v % 16) free_slot).owner) (sym seg))))
+        let nj : v % SLOTS ≢ I = λ is. ne (one_slot v t seg is) in
+        ap (λ (z : ℕ). (get_or (book_at Next.books z).slots (v % SLOTS) free_slot).owner) seg ∙ (ap (λ (z : Book). (get_or z.slots (v % SLOTS) free_slot).owner) next_book ∙ (marked_other I (v % SLOTS) (book_ready s I State0 B) nj ∙ (ready_other (v % SLOTS) nj ∙ ap (λ (z : ℕ). (get_or (book_at h.books z).slots (v % SLOTS) free_slot).owner) (sym seg))))
   ]
 
   -- and this one is the session's
@@ -120,10 +121,10 @@ module _ (h : State) (xids : List Xid) (commit logged : ℕ) (segments : ℕ →
         (record { session = s; start = B.writes; touched = [] }, rw test (ap (λ (z : BookSlot). z.owner) (get_or-set_same B.slots I (let y = get_or B.slots I free_slot in record y { owner = Some (record { session = s; start = B.writes; touched = [] }) }) free_slot (omega (arith, i_few, book.slots)))), refl)
   ]
 
-  ready_slots : length (book_ready s I State0 B).slots ≡ 16
+  ready_slots : length (book_ready s I State0 B).slots ≡ SLOTS
   ready_slots = by (State0 == 1)
     where
-      by : (x : Bool) → length (if x then B else taken s I B).slots ≡ 16
+      by : (x : Bool) → length (if x then B else taken s I B).slots ≡ SLOTS
       by true = book.slots
       by false = simp length-set book.slots
 
@@ -149,26 +150,26 @@ module _ (h : State) (xids : List Xid) (commit logged : ℕ) (segments : ℕ →
   ]
 
   -- a slot that is owned keeps its id
-  pub xid_stays : (v : ℕ) (o : Owner) → v < 16 * h.shape.segments → owner_at h v ≡ Some o → New.xid v ≡ Old.xid v
-  xid_stays v o v_in at = one_xid (New.xid v) (Old.xid v) refl refl (wrap_stays (cases_eq (v / 16) G))
+  pub xid_stays : (v : ℕ) (o : Owner) → v < SLOTS * h.shape.segments → owner_at h v ≡ Some o → New.xid v ≡ Old.xid v
+  xid_stays v o v_in at = one_xid (New.xid v) (Old.xid v) refl refl (wrap_stays (cases_eq (v / SLOTS) G))
     where
-      v_book : IsBook (segments (v / 16)).header (book_at h.books (v / 16))
-      v_book = let a = div-add-mod v 16 in stand.tell.books (v / 16) (omega (arith, a, v_in))
+      v_book : IsBook (segments (v / SLOTS)).header (book_at h.books (v / SLOTS))
+      v_book = let a = div-add-mod v SLOTS in stand.tell.books (v / SLOTS) (omega (arith, a, v_in))
 
       active : (slot_of segments v).state ≡ 1
       active =
-          let is : IsOwned (segments (v / 16)).header (slot_in (segments (v / 16)).header (v % 16)) (Some o) = subst (λ (z : Option Owner). IsOwned (segments (v / 16)).header (slot_in (segments (v / 16)).header (v % 16)) z) at (v_book.owners (v % 16) (slot_few v)) in
+          let is : IsOwned (segments (v / SLOTS)).header (slot_in (segments (v / SLOTS)).header (v % SLOTS)) (Some o) = subst (λ (z : Option Owner). IsOwned (segments (v / SLOTS)).header (slot_in (segments (v / SLOTS)).header (v % SLOTS)) z) at (v_book.owners (v % SLOTS) (slot_few v)) in
           is.state
 
-      wrap_stays : ((v / 16 ≡ G) ⊎ (v / 16 ≢ G)) → (slot_in (after (v / 16)).header (v % 16)).wrap ≡ (slot_in (segments (v / 16)).header (v % 16)).wrap
-      wrap_stays (inr off) = ap (λ (z : Segment). (slot_in z.header (v % 16)).wrap) (w.others (v / 16) ∙ off_segment G (v / 16) w.segment segments off)
+      wrap_stays : ((v / SLOTS ≡ G) ⊎ (v / SLOTS ≢ G)) → (slot_in (after (v / SLOTS)).header (v % SLOTS)).wrap ≡ (slot_in (segments (v / SLOTS)).header (v % SLOTS)).wrap
+      wrap_stays (inr off) = ap (λ (z : Segment). (slot_in z.header (v % SLOTS)).wrap) (w.others (v / SLOTS) ∙ off_segment G (v / SLOTS) w.segment segments off)
       wrap_stays (inl seg) =
-          let here : (slot_in (segments G).header (v % 16)).state ≡ 1 = subst (λ (z : ℕ). (slot_in (segments z).header (v % 16)).state ≡ 1) seg active in
-          let stays : (slot_in w.segment.header (v % 16)).wrap ≡ (slot_in (segments G).header (v % 16)).wrap = (written_ages (segments G) I address u w.segment w.records commit logged (stand.stands.in_order G g_in) i_few (keeps_of h.shape commit logged segments homes (past_of h xids) (lives_of h Old) stand.stands stand.tell.running G g_in) (running_of h.shape commit logged segments homes (past_of h xids) (lives_of h Old) stand.stands stand.tell.running G g_in) w.slot w.wrap).wrap (v % 16) here in
-          ap (λ (z : ℕ). (slot_in (after z).header (v % 16)).wrap) seg ∙ (ap (λ (z : Segment). (slot_in z.header (v % 16)).wrap) (w.others G ∙ at_segment G w.segment segments) ∙ (stays ∙ ap (λ (z : ℕ). (slot_in (segments z).header (v % 16)).wrap) (sym seg)))
+          let here : (slot_in (segments G).header (v % SLOTS)).state ≡ 1 = subst (λ (z : ℕ). (slot_in (segments z).header (v % SLOTS)).state ≡ 1) seg active in
+          let stays : (slot_in w.segment.header (v % SLOTS)).wrap ≡ (slot_in (segments G).header (v % SLOTS)).wrap = (written_ages (segments G) I address u w.segment w.records commit logged (stand.stands.in_order G g_in) i_few (keeps_of h.shape commit logged segments homes (past_of h xids) (lives_of h Old) stand.stands stand.tell.running G g_in) (running_of h.shape commit logged segments homes (past_of h xids) (lives_of h Old) stand.stands stand.tell.running G g_in) w.slot w.wrap).wrap (v % SLOTS) here in
+          ap (λ (z : ℕ). (slot_in (after z).header (v % SLOTS)).wrap) seg ∙ (ap (λ (z : Segment). (slot_in z.header (v % SLOTS)).wrap) (w.others G ∙ at_segment G w.segment segments) ∙ (stays ∙ ap (λ (z : ℕ). (slot_in (segments z).header (v % SLOTS)).wrap) (sym seg)))
 
   -- what other slots have live is what they had
-  owned_other : (v : ℕ) → v ≢ t → v < 16 * h.shape.segments → owned Next (New.xid v) (owner_at Next v) ≡ owned h (Old.xid v) (owner_at h v)
+  owned_other : (v : ℕ) → v ≢ t → v < SLOTS * h.shape.segments → owned Next (New.xid v) (owner_at Next v) ≡ owned h (Old.xid v) (owner_at h v)
   owned_other v ne v_in = ap (owned Next (New.xid v)) (owner_other v ne) ∙ by (owner_at h v) refl
     where
       by : (o : Option Owner) → owner_at h v ≡ o → owned Next (New.xid v) o ≡ owned h (Old.xid v) o
@@ -260,7 +261,7 @@ module _ (h : State) (xids : List Xid) (commit logged : ℕ) (segments : ℕ →
       ])
 
   -- no commit is of a slot that is Active now: one that was taken has an id that was never made
-  over_next : (i v : ℕ) → i < length xids → v < 16 * h.shape.segments → (slot_of after v).state ≡ 1 → get_or xids i no_xid ≢ New.xid v
+  over_next : (i v : ℕ) → i < length xids → v < SLOTS * h.shape.segments → (slot_of after v).state ≡ 1 → get_or xids i no_xid ≢ New.xid v
   over_next i v i_in v_in active is = elim (cases_eq v t) [
     | inl at ↦ let here : get_or xids i no_xid ≡ New.xid t = is ∙ ap New.xid at in elim takes [
       | inl owns ↦ stand.tell.ids_over i t i_in t_in (active_of h segments stand.tell.books t t_in owns.owner owns.at) (here ∙ xid_stays t owns.owner t_in owns.at)
@@ -314,7 +315,7 @@ module _ (h : State) (xids : List Xid) (commit logged : ℕ) (segments : ℕ →
       ];
       commit_tables = stand.tell.commit_tables;
       ids_differ = stand.tell.ids_differ;
-      ids_made = λ i i_in. made_later h.shape segments after (get_or xids i no_xid) (λ v. wraps_rise h.shape commit logged segments homes (past_of h xids) (lives_of h Old) stand.stands stand.tell.running homes2 t kind address u t_in after w (v / 16) (v % 16)) (stand.tell.ids_made i i_in);
+      ids_made = λ i i_in. made_later h.shape segments after (get_or xids i no_xid) (λ v. wraps_rise h.shape commit logged segments homes (past_of h xids) (lives_of h Old) stand.stands stand.tell.running homes2 t kind address u t_in after w (v / SLOTS) (v % SLOTS)) (stand.tell.ids_made i i_in);
       ids_over = over_next;
       running = running_written h.shape commit logged segments homes (past_of h xids) (lives_of h Old) stand.stands stand.tell.running homes2 t kind address u t_in after w;
     };

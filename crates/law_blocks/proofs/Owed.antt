@@ -3,6 +3,7 @@ use Rattle.std.proofs.Common.{◌≡◌, ◌≢◌, ◌<◌, ◌≤◌, ◌+◌,
 use Rattle.std.specs.List.{sum_by, range_with_len}
 use Rattle.std.proofs.lemmas.Bool.{cases_eq}
 use Rattle.std.proofs.lemmas.List.Sums.{sum_by-cons}
+use Rattle.rb_base.specs.declared.sizes.TheConstants.{SLOTS}
 use Rattle.rb_base.specs.declared.shape.Shape.{Shape}
 use Rattle.rb_segment.specs.Header.{Segment, slot_owed}
 use Rattle.law_blocks.specs.Values.{slot_of, owed}
@@ -34,5 +35,5 @@ sum_one f g a (suc n) t le lt same =
           omega (arith, rest, x, y, here)
     ]
 
-pub owed_one : (shape : Shape) (segments after : ℕ → Segment) (t : ℕ) → t < 16 * shape.segments → ((v : ℕ) → v ≢ t → slot_owed (slot_of after v) ≡ slot_owed (slot_of segments v)) → owed shape after + slot_owed (slot_of segments t) ≡ owed shape segments + slot_owed (slot_of after t)
-owed_one shape segments after t t_in same = sum_one (λ v. slot_owed (slot_of segments v)) (λ v. slot_owed (slot_of after v)) 0 (16 * shape.segments) t (omega arith) (omega (arith, t_in)) same
+pub owed_one : (shape : Shape) (segments after : ℕ → Segment) (t : ℕ) → t < SLOTS * shape.segments → ((v : ℕ) → v ≢ t → slot_owed (slot_of after v) ≡ slot_owed (slot_of segments v)) → owed shape after + slot_owed (slot_of segments t) ≡ owed shape segments + slot_owed (slot_of after t)
+owed_one shape segments after t t_in same = sum_one (λ v. slot_owed (slot_of segments v)) (λ v. slot_owed (slot_of after v)) 0 (SLOTS * shape.segments) t (omega arith) (omega (arith, t_in)) same

@@ -1,6 +1,7 @@
 -- What all segments say grows older where each segment does.
 use Rattle.std.proofs.Common.{◌≡◌, ◌≤◌, ◌/◌, ◌%◌, ℕ, List, Option, Some, None, refl, sym, ◌∙◌, ap, subst, arith}
 use Rattle.std.proofs.Math.Nat.{div-add-mod}
+use Rattle.rb_base.specs.declared.sizes.TheConstants.{SLOTS}
 use Rattle.rb_base.specs.declared.ids.Xid.{Xid}
 use Rattle.rb_base.specs.declared.shape.Shape.{Shape}
 use Rattle.rb_model.specs.Change.{Place}
@@ -31,8 +32,8 @@ pub one_xid : (x y : Xid) → x.seg ≡ y.seg → x.slot ≡ y.slot → x.wrap �
 one_xid x y seg slot wrap = ids x.seg x.slot x.wrap y.seg y.slot y.wrap seg slot wrap
 
 -- a slot is told by its segment and its number there
-pub one_slot : (t u : ℕ) → t / 16 ≡ u / 16 → t % 16 ≡ u % 16 → t ≡ u
-one_slot t u segs slots = let a = div-add-mod t 16 in let b = div-add-mod u 16 in omega (arith, a, b, segs, slots)
+pub one_slot : (t u : ℕ) → t / SLOTS ≡ u / SLOTS → t % SLOTS ≡ u % SLOTS → t ≡ u
+one_slot t u segs slots = let a = div-add-mod t SLOTS in let b = div-add-mod u SLOTS in omega (arith, a, b, segs, slots)
 
 module _ (shape : Shape) (segments : ℕ → Segment) where
   -- an id tells the slot
@@ -54,11 +55,11 @@ module _ (shape : Shape) (segments segments2 : ℕ → Segment) (lives : List (L
   stays t p r goes xid is =
       let u : (u : UndoRecord) × (record_in (segments p.seg) p.index ≡ Some u) × (walk_undo shape p.seg u ≡ r) = recorded shape p.seg (record_in (segments p.seg) p.index) r is in
       let x : (walk_undo shape p.seg u.0).xid ≡ Old.xid t = ap (λ (z : Undo). z.xid) u.2 ∙ xid in
-      let seg : p.seg ≡ t / 16 = ap (λ (z : Xid). z.seg) x in
-      let slot : u.0.slot ≡ t % 16 = ap (λ (z : Xid). z.slot) x in
-      let wrap : u.0.wrap ≡ (slot_in (segments (t / 16)).header (t % 16)).wrap = ap (λ (z : Xid). z.wrap) x in
-      let wrap_here : u.0.wrap ≡ (slot_in (segments p.seg).header (t % 16)).wrap = subst (λ (z : ℕ). u.0.wrap ≡ (slot_in (segments z).header (t % 16)).wrap) (sym seg) wrap in
-      let now : record_in (segments2 p.seg) p.index ≡ Some u.0 = (each p.seg).kept (t % 16) p.index u.0 (t, sym seg, refl, goes) slot wrap_here u.1 in
+      let seg : p.seg ≡ t / SLOTS = ap (λ (z : Xid). z.seg) x in
+      let slot : u.0.slot ≡ t % SLOTS = ap (λ (z : Xid). z.slot) x in
+      let wrap : u.0.wrap ≡ (slot_in (segments (t / SLOTS)).header (t % SLOTS)).wrap = ap (λ (z : Xid). z.wrap) x in
+      let wrap_here : u.0.wrap ≡ (slot_in (segments p.seg).header (t % SLOTS)).wrap = subst (λ (z : ℕ). u.0.wrap ≡ (slot_in (segments z).header (t % SLOTS)).wrap) (sym seg) wrap in
+      let now : record_in (segments2 p.seg) p.index ≡ Some u.0 = (each p.seg).kept (t % SLOTS) p.index u.0 (t, sym seg, refl, goes) slot wrap_here u.1 in
       ap (walk_record shape p.seg) now ∙ ap Some u.2
 
   was : (p : Place) (r : Undo) → p.index ≤ (segments p.seg).header.writes → New.store p ≡ Some r → Old.store p ≡ Some r
@@ -70,7 +71,7 @@ module _ (shape : Shape) (segments segments2 : ℕ → Segment) (lives : List (L
   live_ages = record {
     ages = ages_by_looks Old New (λ g. (each g).lost) (λ x. (each x.seg).looks x.slot x.wrap) (λ g. (segments g).header.writes) was (λ p le. limit_rises (segments p.seg).header (segments2 p.seg).header (each p.seg).lost (each p.seg).writes (each p.seg).limit p.index le);
     store = stays;
-    xid = λ t goes. one_xid (New.xid t) (Old.xid t) refl refl ((each (t / 16)).wrap (t % 16) (t, refl, refl, goes));
-    goes_on = λ t goes active. (each (t / 16)).goes_on (t % 16) (t, refl, refl, goes) active;
+    xid = λ t goes. one_xid (New.xid t) (Old.xid t) refl refl ((each (t / SLOTS)).wrap (t % SLOTS) (t, refl, refl, goes));
+    goes_on = λ t goes active. (each (t / SLOTS)).goes_on (t % SLOTS) (t, refl, refl, goes) active;
     active = λ x active. (each x.seg).active x.slot x.wrap active;
   }

@@ -1,8 +1,11 @@
 -- The segments after a write: one has one record more, and the others are what they were.
-use Rattle.std.proofs.Common.{◌≡◌, ◌≢◌, inl, inr, ◌<◌, ◌≤◌, ◌+◌, ◌/◌, ◌%◌, ℕ, List, map, set, refl, sym, ◌∙◌, ap, arith}
+use Rattle.std.proofs.Common.{◌*◌, ◌≡◌, ◌≢◌, inl, inr, ◌<◌, ◌≤◌, ◌+◌, ◌/◌, ◌%◌, ℕ, List, map, set, refl, sym, ◌∙◌, ap, arith}
 use Rattle.std.proofs.lemmas.Bool.{cases_eq}
 use Rattle.std.proofs.lemmas.List.{get_or-set_same}
 use Rattle.std.specs.List.{range_with_len}
+use Rattle.rb_undoblock.specs.declared.record.TheConstants.{UNDO_RECORDS}
+use Rattle.rb_base.specs.declared.sizes.TheConstants.{SLOTS}
+use Rattle.rb_ring.specs.declared.extents.TheConstants.{EXTENTS, EXTENT_RECORDS}
 use Rattle.rb_base.specs.Blocks.{block_of, header_block, table_blocks}
 use Rattle.rb_base.specs.declared.ids.Uba.{Uba}
 use Rattle.rb_base.specs.declared.shape.Shape.{Shape}
@@ -22,12 +25,12 @@ use Rattle.rb_segment.proofs.WithSegment.{at_segment, off_segment}
 use Rattle.law_blocks.proofs.SegmentRead.{header_is, segment_stays}
 use Rattle.law_blocks.proofs.StandingWritten.{slot_few}
 
-module _ (shape : Shape) (t : ℕ) (address : Uba) (u : UndoRecord) (before now : List (List ℕ)) (commit logged : ℕ) (order : SegmentInOrder commit logged (segments_of shape before (t / 16))) (is : IsRecorded shape (t / 16) (t % 16) address u (header_at shape before t) (header_at shape now t) before now) where
+module _ (shape : Shape) (t : ℕ) (address : Uba) (u : UndoRecord) (before now : List (List ℕ)) (commit logged : ℕ) (order : SegmentInOrder commit logged (segments_of shape before (t / SLOTS))) (is : IsRecorded shape (t / SLOTS) (t % SLOTS) address u (header_at shape before t) (header_at shape now t) before now) where
   abbrev G : ℕ
-  G = t / 16
+  G = t / SLOTS
 
   abbrev I : ℕ
-  I = t % 16
+  I = t % SLOTS
 
   abbrev S : Segment
   S = segments_of shape before G
@@ -80,13 +83,13 @@ module _ (shape : Shape) (t : ℕ) (address : Uba) (u : UndoRecord) (before now 
   pub made_wrap : u.wrap ≡ (slot_in Made.header I).wrap
   made_wrap = is.wrap ∙ (ap (λ (z : TableSlot). z.wrap) (sym room_slot) ∙ ap (λ (z : TableSlot). z.wrap) (sym own_slot))
 
-  place_few : next_place is.room < 320
+  place_few : next_place is.room < (EXTENTS * EXTENT_RECORDS)
   place_few = omega (arith, room.ring.head_in, room.few)
 
   block_is : address.block ≡ undo_block shape G (next_place is.room)
   block_is = ap (λ (z : Uba). z.block) is.at
 
-  rec_is : address.rec ≡ next_place is.room % 10
+  rec_is : address.rec ≡ next_place is.room % UNDO_RECORDS
   rec_is = ap (λ (z : Uba). z.rec) is.at
 
   -- where the record stands
@@ -94,28 +97,28 @@ module _ (shape : Shape) (t : ℕ) (address : Uba) (u : UndoRecord) (before now 
   address_within = (omega (arith, block_is), omega (arith, block_is, place_few))
 
   -- a group of the header's block, of the record's, and of blocks of rows
-  module _ (stays : (b : ℕ) → table_blocks shape ≤ b → b ≢ header_block shape (t / 16) → b ≢ address.block → block_of now b ≡ block_of before b) where
+  module _ (stays : (b : ℕ) → table_blocks shape ≤ b → b ≢ header_block shape (t / SLOTS) → b ≢ address.block → block_of now b ≡ block_of before b) where
     abbrev Undo : List (List ℕ) → ℕ → UndoRecord
-    Undo blocks i = undo_at (block_of blocks (undo_block shape G i)) (i % 10)
+    Undo blocks i = undo_at (block_of blocks (undo_block shape G i)) (i % UNDO_RECORDS)
 
     own_record : Undo now (next_place is.room) ≡ u
-    own_record = ap (λ (z : ℕ). undo_at (block_of now z) (next_place is.room % 10)) (sym block_is) ∙ (ap (undo_at (block_of now address.block)) (sym rec_is) ∙ is.made)
+    own_record = ap (λ (z : ℕ). undo_at (block_of now z) (next_place is.room % UNDO_RECORDS)) (sym block_is) ∙ (ap (undo_at (block_of now address.block)) (sym rec_is) ∙ is.made)
 
-    other_record : (i : ℕ) → i < 320 → i ≢ next_place is.room → Undo now i ≡ Undo before i
+    other_record : (i : ℕ) → i < (EXTENTS * EXTENT_RECORDS) → i ≢ next_place is.room → Undo now i ≡ Undo before i
     other_record i few ne = elim (cases_eq (undo_block shape G i) address.block) [
       | inl at ↦
-          ap (λ (z : ℕ). undo_at (block_of now z) (i % 10)) at
-          ∙ (is.others (i % 10) (omega arith) (λ same. ne (omega (arith, at, same, block_is, rec_is)))
-          ∙ ap (λ (z : ℕ). undo_at (block_of before z) (i % 10)) (sym at))
-      | inr off ↦ ap (λ (z : List ℕ). undo_at z (i % 10)) (stays (undo_block shape G i) (omega arith) (λ head. omega (arith, head)) off)
+          ap (λ (z : ℕ). undo_at (block_of now z) (i % UNDO_RECORDS)) at
+          ∙ (is.others (i % UNDO_RECORDS) (omega arith) (λ same. ne (omega (arith, at, same, block_is, rec_is)))
+          ∙ ap (λ (z : ℕ). undo_at (block_of before z) (i % UNDO_RECORDS)) (sym at))
+      | inr off ↦ ap (λ (z : List ℕ). undo_at z (i % UNDO_RECORDS)) (stays (undo_block shape G i) (omega arith) (λ head. omega (arith, head)) off)
     ]
 
     own_segment : segments_of shape now G ≡ Made
     unfolding segment_of
     own_segment =
-        let undo : map (Undo now) (range_with_len 0 320) ≡ set (map (Undo before) (range_with_len 0 320)) (next_place is.room) u = listed_set (Undo now) (Undo before) 320 (next_place is.room) u no_undo place_few own_record other_record in
+        let undo : map (Undo now) (range_with_len 0 (EXTENTS * EXTENT_RECORDS)) ≡ set (map (Undo before) (range_with_len 0 (EXTENTS * EXTENT_RECORDS))) (next_place is.room) u = listed_set (Undo now) (Undo before) (EXTENTS * EXTENT_RECORDS) (next_place is.room) u no_undo place_few own_record other_record in
         ap (λ (z : List UndoRecord). let s : Segment = record { header = header_at shape now t; undo = z } in s) undo
-        ∙ ap (λ (z : Header). let s : Segment = record { header = z; undo = set (map (Undo before) (range_with_len 0 320)) (next_place is.room) u } in s) is.added_as.made
+        ∙ ap (λ (z : Header). let s : Segment = record { header = z; undo = set (map (Undo before) (range_with_len 0 (EXTENTS * EXTENT_RECORDS))) (next_place is.room) u } in s) is.added_as.made
 
     other_segment : (k : ℕ) → k ≢ G → segments_of shape now k ≡ segments_of shape before k
     other_segment k ne = segment_stays shape before now k (λ i few. let a = address_within in stays (undo_block shape k i) (omega arith) (λ head. omega (arith, head, few)) (λ at. ne (omega (arith, at, a, few))))

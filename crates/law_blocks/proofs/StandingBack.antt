@@ -3,6 +3,7 @@ use Rattle.std.proofs.Common.{◌≡◌, ◌≢◌, inl, inr, ◌<◌, ◌≤◌
 use Rattle.std.proofs.lemmas.Bool.{cases_eq}
 use Rattle.std.proofs.lemmas.List.{get_or-set_same, get_or-set_other, length-set, set-get_or}
 use Rattle.std.proofs.Math.Nat.{div-add-mod}
+use Rattle.rb_base.specs.declared.sizes.TheConstants.{SLOTS}
 use Rattle.rb_base.specs.Blocks.{table_blocks}
 use Rattle.rb_base.specs.declared.ids.Uba.{Uba}
 use Rattle.rb_base.specs.declared.ids.Xid.{Xid}
@@ -35,12 +36,12 @@ use Rattle.law_blocks.proofs.StandingWritten.{slot_few}
 use Rattle.law_home.proofs.Homes.{lives_here, live_here, live_elsewhere}
 use Rattle.law_home.proofs.Standing.{stands_back}
 
-module _ (shape : Shape) (commit logged : ℕ) (segments : ℕ → Segment) (homes : ℕ → Home) (past : Past) (lives : List (List Change)) (stand : StandingAs shape commit logged segments homes past lives) (homes2 : ℕ → Home) (t : ℕ) (u : UndoRecord) (t_in : t < 16 * shape.segments) (after : ℕ → Segment) (put : PutBack shape segments after homes homes2 t u) (ch : Change) (more : List Change) (has : own lives t ≡ ch ∷ more) where
+module _ (shape : Shape) (commit logged : ℕ) (segments : ℕ → Segment) (homes : ℕ → Home) (past : Past) (lives : List (List Change)) (stand : StandingAs shape commit logged segments homes past lives) (homes2 : ℕ → Home) (t : ℕ) (u : UndoRecord) (t_in : t < SLOTS * shape.segments) (after : ℕ → Segment) (put : PutBack shape segments after homes homes2 t u) (ch : Change) (more : List Change) (has : own lives t ≡ ch ∷ more) where
   abbrev G : ℕ
-  G = t / 16
+  G = t / SLOTS
 
   abbrev I : ℕ
-  I = t % 16
+  I = t % SLOTS
 
   abbrev S : Segment
   S = segments G
@@ -52,7 +53,7 @@ module _ (shape : Shape) (commit logged : ℕ) (segments : ℕ → Segment) (hom
   Shorter = set lives t more
 
   g_in : G < shape.segments
-  g_in = let a = div-add-mod t 16 in omega (arith, a, t_in)
+  g_in = let a = div-add-mod t SLOTS in omega (arith, a, t_in)
 
   within : I < length S.header.slots
   within = let a = slot_few t in omega (arith, a, (stand.in_order G g_in).header.slots_counted)
@@ -154,23 +155,23 @@ module _ (shape : Shape) (commit logged : ℕ) (segments : ℕ → Segment) (hom
     idle = old.idle;
   }
 
-  slots_after : (v : ℕ) → v < 16 * shape.segments → SlotStands shape commit (wraps_of after) (v / 16) (after (v / 16)) (v % 16) (own Shorter v)
+  slots_after : (v : ℕ) → v < SLOTS * shape.segments → SlotStands shape commit (wraps_of after) (v / SLOTS) (after (v / SLOTS)) (v % SLOTS) (own Shorter v)
   slots_after v v_in = elim (cases_eq v t) [
-    | inl at ↦ subst (λ (z : ℕ). SlotStands shape commit (wraps_of after) (z / 16) (after (z / 16)) (z % 16) (own Shorter z)) (sym at)
+    | inl at ↦ subst (λ (z : ℕ). SlotStands shape commit (wraps_of after) (z / SLOTS) (after (z / SLOTS)) (z % SLOTS) (own Shorter z)) (sym at)
         (subst (λ (z : Segment). SlotStands shape commit (wraps_of after) G z I (own Shorter t)) (sym after_at) (subst (λ (z : List Change). SlotStands shape commit (wraps_of after) G S2 I z) (sym (get_or-set_same lives t more [] (omega (arith, t_in, stand.slots_counted)))) own_stands))
-    | inr ne ↦ subst (λ (z : List Change). SlotStands shape commit (wraps_of after) (v / 16) (after (v / 16)) (v % 16) z) (sym (get_or-set_other lives t v more [] ne)) (elim (cases_eq (v / 16) G) [
+    | inr ne ↦ subst (λ (z : List Change). SlotStands shape commit (wraps_of after) (v / SLOTS) (after (v / SLOTS)) (v % SLOTS) z) (sym (get_or-set_other lives t v more [] ne)) (elim (cases_eq (v / SLOTS) G) [
       | inl seg ↦
-          let old : SlotStands shape commit (wraps_of segments) G S (v % 16) (own lives v) = subst (λ (z : ℕ). SlotStands shape commit (wraps_of segments) z (segments z) (v % 16) (own lives v)) seg (stand.slots v v_in) in
-          let nj : v % 16 ≢ I = λ is. ne (one_slot v t seg is) in
-          subst (λ (z : ℕ). SlotStands shape commit (wraps_of after) z (after z) (v % 16) (own lives v)) (sym seg) (subst (λ (z : Segment). SlotStands shape commit (wraps_of after) G z (v % 16) (own lives v)) (sym after_at) (beside_stands (v % 16) (own lives v) nj old))
-      | inr off ↦ subst (λ (z : Segment). SlotStands shape commit (wraps_of after) (v / 16) z (v % 16) (own lives v)) (sym (after_off (v / 16) off)) (elsewhere_stands (v / 16) (v % 16) (segments (v / 16)) (own lives v) (stand.slots v v_in))
+          let old : SlotStands shape commit (wraps_of segments) G S (v % SLOTS) (own lives v) = subst (λ (z : ℕ). SlotStands shape commit (wraps_of segments) z (segments z) (v % SLOTS) (own lives v)) seg (stand.slots v v_in) in
+          let nj : v % SLOTS ≢ I = λ is. ne (one_slot v t seg is) in
+          subst (λ (z : ℕ). SlotStands shape commit (wraps_of after) z (after z) (v % SLOTS) (own lives v)) (sym seg) (subst (λ (z : Segment). SlotStands shape commit (wraps_of after) G z (v % SLOTS) (own lives v)) (sym after_at) (beside_stands (v % SLOTS) (own lives v) nj old))
+      | inr off ↦ subst (λ (z : Segment). SlotStands shape commit (wraps_of after) (v / SLOTS) z (v % SLOTS) (own lives v)) (sym (after_off (v / SLOTS) off)) (elsewhere_stands (v / SLOTS) (v % SLOTS) (segments (v / SLOTS)) (own lives v) (stand.slots v v_in))
     ])
   ]
 
   pub newest_stays : (v : ℕ) → (slot_of after v).newest ≡ (slot_of segments v).newest
-  newest_stays v = elim (cases_eq (v / 16) G) [
-    | inl seg ↦ ap (λ (z : ℕ). (slot_in (after z).header (v % 16)).newest) seg ∙ (ap (λ (z : Segment). (slot_in z.header (v % 16)).newest) after_at ∙ (back_like S I u.previous within (λ x y. x.newest ≡ y.newest) (λ x. refl) (λ x live at. refl) (v % 16) ∙ ap (λ (z : ℕ). (slot_in (segments z).header (v % 16)).newest) (sym seg)))
-    | inr off ↦ ap (λ (z : Segment). (slot_in z.header (v % 16)).newest) (after_off (v / 16) off)
+  newest_stays v = elim (cases_eq (v / SLOTS) G) [
+    | inl seg ↦ ap (λ (z : ℕ). (slot_in (after z).header (v % SLOTS)).newest) seg ∙ (ap (λ (z : Segment). (slot_in z.header (v % SLOTS)).newest) after_at ∙ (back_like S I u.previous within (λ x y. x.newest ≡ y.newest) (λ x. refl) (λ x live at. refl) (v % SLOTS) ∙ ap (λ (z : ℕ). (slot_in (segments z).header (v % SLOTS)).newest) (sym seg)))
+    | inr off ↦ ap (λ (z : Segment). (slot_in z.header (v % SLOTS)).newest) (after_off (v / SLOTS) off)
   ]
 
   pub standing_back : StandingAs shape commit (logged + 1) after homes2 past Shorter
@@ -187,17 +188,17 @@ module _ (shape : Shape) (commit logged : ℕ) (segments : ℕ → Segment) (hom
   }
 
   pub running_back : Running shape segments → Running shape after
-  running_back running v v_in active = elim (cases_eq (v / 16) G) [
+  running_back running v v_in active = elim (cases_eq (v / SLOTS) G) [
     | inl seg ↦
-        let here : (slot_in S2.header (v % 16)).state ≡ 1 = subst (λ (z : Segment). (slot_in z.header (v % 16)).state ≡ 1) after_at (subst (λ (z : ℕ). (slot_in (after z).header (v % 16)).state ≡ 1) seg active) in
-        let was : (slot_in S.header (v % 16)).state ≡ 1 = back_like S I u.previous within (λ x y. x.state ≡ 1 → y.state ≡ 1) (λ x is. is) (λ x live at is. is) (v % 16) here in
-        let runs : RunningSlot S.header (slot_in S.header (v % 16)) = subst (λ (z : ℕ). RunningSlot (segments z).header (slot_in (segments z).header (v % 16))) seg (running v v_in (ap (λ (z : ℕ). (slot_in (segments z).header (v % 16)).state) seg ∙ was)) in
-        subst (λ (z : ℕ). RunningSlot (after z).header (slot_in (after z).header (v % 16))) (sym seg) (subst (λ (z : Segment). RunningSlot z.header (slot_in z.header (v % 16))) (sym after_at) (back_running S I u.previous within (v % 16) runs))
+        let here : (slot_in S2.header (v % SLOTS)).state ≡ 1 = subst (λ (z : Segment). (slot_in z.header (v % SLOTS)).state ≡ 1) after_at (subst (λ (z : ℕ). (slot_in (after z).header (v % SLOTS)).state ≡ 1) seg active) in
+        let was : (slot_in S.header (v % SLOTS)).state ≡ 1 = back_like S I u.previous within (λ x y. x.state ≡ 1 → y.state ≡ 1) (λ x is. is) (λ x live at is. is) (v % SLOTS) here in
+        let runs : RunningSlot S.header (slot_in S.header (v % SLOTS)) = subst (λ (z : ℕ). RunningSlot (segments z).header (slot_in (segments z).header (v % SLOTS))) seg (running v v_in (ap (λ (z : ℕ). (slot_in (segments z).header (v % SLOTS)).state) seg ∙ was)) in
+        subst (λ (z : ℕ). RunningSlot (after z).header (slot_in (after z).header (v % SLOTS))) (sym seg) (subst (λ (z : Segment). RunningSlot z.header (slot_in z.header (v % SLOTS))) (sym after_at) (back_running S I u.previous within (v % SLOTS) runs))
     | inr off ↦
-        let same = after_off (v / 16) off in
-        let was : (slot_of segments v).state ≡ 1 = ap (λ (z : Segment). (slot_in z.header (v % 16)).state) (sym same) ∙ active in
-        subst (λ (z : Segment). RunningSlot z.header (slot_in z.header (v % 16))) (sym same) (running v v_in was)
+        let same = after_off (v / SLOTS) off in
+        let was : (slot_of segments v).state ≡ 1 = ap (λ (z : Segment). (slot_in z.header (v % SLOTS)).state) (sym same) ∙ active in
+        subst (λ (z : Segment). RunningSlot z.header (slot_in z.header (v % SLOTS))) (sym same) (running v v_in was)
   ]
 
   pub xid_back : (v : ℕ) → (says shape after).xid v ≡ (says shape segments).xid v
-  xid_back v = one_xid ((says shape after).xid v) ((says shape segments).xid v) refl refl ((each (λ k j. Unit {0}) (v / 16)).wrap (v % 16) tt)
+  xid_back v = one_xid ((says shape after).xid v) ((says shape segments).xid v) refl refl ((each (λ k j. Unit {0}) (v / SLOTS)).wrap (v % SLOTS) tt)

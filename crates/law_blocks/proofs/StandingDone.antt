@@ -4,6 +4,7 @@ use Rattle.std.proofs.Common.{◌≡◌, ◌≢◌, inl, inr, ◌<◌, ◌≤◌
 use Rattle.std.proofs.lemmas.Bool.{cases_eq}
 use Rattle.std.proofs.lemmas.List.{get_or-set_same, get_or-set_other, length-set, set-get_or}
 use Rattle.std.proofs.Math.Nat.{div-add-mod}
+use Rattle.rb_base.specs.declared.sizes.TheConstants.{SLOTS}
 use Rattle.rb_base.specs.declared.ids.Uba.{Uba}
 use Rattle.rb_base.specs.declared.ids.Xid.{Xid}
 use Rattle.rb_base.specs.declared.shape.Shape.{Shape}
@@ -32,12 +33,12 @@ use Rattle.law_blocks.proofs.Listed.{saved_later, listed_later}
 use Rattle.law_blocks.proofs.Seen.{one_slot, one_xid}
 use Rattle.law_blocks.proofs.StandingWritten.{slot_few, keeps_of, running_of}
 
-module _ (shape : Shape) (commit logged : ℕ) (segments : ℕ → Segment) (homes : ℕ → Home) (past : Past) (lives : List (List Change)) (stand : StandingAs shape commit logged segments homes past lives) (t : ℕ) (t_in : t < 16 * shape.segments) where
+module _ (shape : Shape) (commit logged : ℕ) (segments : ℕ → Segment) (homes : ℕ → Home) (past : Past) (lives : List (List Change)) (stand : StandingAs shape commit logged segments homes past lives) (t : ℕ) (t_in : t < SLOTS * shape.segments) where
   abbrev G : ℕ
-  G = t / 16
+  G = t / SLOTS
 
   abbrev I : ℕ
-  I = t % 16
+  I = t % SLOTS
 
   abbrev S : Segment
   S = segments G
@@ -46,9 +47,9 @@ module _ (shape : Shape) (commit logged : ℕ) (segments : ℕ → Segment) (hom
   Without = set lives t []
 
   g_in : G < shape.segments
-  g_in = let a = div-add-mod t 16 in omega (arith, a, t_in)
+  g_in = let a = div-add-mod t SLOTS in omega (arith, a, t_in)
 
-  i_few : I < 16
+  i_few : I < SLOTS
   i_few = slot_few t
 
   order : SegmentInOrder commit logged S
@@ -97,33 +98,33 @@ module _ (shape : Shape) (commit logged : ℕ) (segments : ℕ → Segment) (hom
       idle = old.idle;
     }
 
-    pub slots_after : (v : ℕ) → v < 16 * shape.segments → SlotStands shape c (wraps_of After) (v / 16) (After (v / 16)) (v % 16) (own Without v)
+    pub slots_after : (v : ℕ) → v < SLOTS * shape.segments → SlotStands shape c (wraps_of After) (v / SLOTS) (After (v / SLOTS)) (v % SLOTS) (own Without v)
     slots_after v v_in = elim (cases_eq v t) [
-      | inl at ↦ subst (λ (z : ℕ). SlotStands shape c (wraps_of After) (z / 16) (After (z / 16)) (z % 16) (own Without z)) (sym at)
+      | inl at ↦ subst (λ (z : ℕ). SlotStands shape c (wraps_of After) (z / SLOTS) (After (z / SLOTS)) (z % SLOTS) (own Without z)) (sym at)
           (subst (λ (z : Segment). SlotStands shape c (wraps_of After) G z I (own Without t)) (sym after_at) (subst (λ (z : List Change). SlotStands shape c (wraps_of After) G s2 I z) (sym (get_or-set_same lives t [] [] (omega (arith, t_in, stand.slots_counted)))) (record { active = λ is. absurd (done is); idle = λ not. refl })))
-      | inr ne ↦ subst (λ (z : List Change). SlotStands shape c (wraps_of After) (v / 16) (After (v / 16)) (v % 16) z) (sym (get_or-set_other lives t v [] [] ne)) (elim (cases_eq (v / 16) G) [
+      | inr ne ↦ subst (λ (z : List Change). SlotStands shape c (wraps_of After) (v / SLOTS) (After (v / SLOTS)) (v % SLOTS) z) (sym (get_or-set_other lives t v [] [] ne)) (elim (cases_eq (v / SLOTS) G) [
         | inl seg ↦
-            let old : SlotStands shape commit (wraps_of segments) G S (v % 16) (own lives v) = subst (λ (z : ℕ). SlotStands shape commit (wraps_of segments) z (segments z) (v % 16) (own lives v)) seg (stand.slots v v_in) in
-            let nj : v % 16 ≢ I = λ is. ne (one_slot v t seg is) in
-            subst (λ (z : ℕ). SlotStands shape c (wraps_of After) z (After z) (v % 16) (own lives v)) (sym seg) (subst (λ (z : Segment). SlotStands shape c (wraps_of After) G z (v % 16) (own lives v)) (sym after_at) (beside_stands (v % 16) (own lives v) nj old))
-        | inr off ↦ subst (λ (z : Segment). SlotStands shape c (wraps_of After) (v / 16) z (v % 16) (own lives v)) (sym (after_off (v / 16) off)) (elsewhere_stands (v / 16) (v % 16) (segments (v / 16)) (own lives v) (stand.slots v v_in))
+            let old : SlotStands shape commit (wraps_of segments) G S (v % SLOTS) (own lives v) = subst (λ (z : ℕ). SlotStands shape commit (wraps_of segments) z (segments z) (v % SLOTS) (own lives v)) seg (stand.slots v v_in) in
+            let nj : v % SLOTS ≢ I = λ is. ne (one_slot v t seg is) in
+            subst (λ (z : ℕ). SlotStands shape c (wraps_of After) z (After z) (v % SLOTS) (own lives v)) (sym seg) (subst (λ (z : Segment). SlotStands shape c (wraps_of After) G z (v % SLOTS) (own lives v)) (sym after_at) (beside_stands (v % SLOTS) (own lives v) nj old))
+        | inr off ↦ subst (λ (z : Segment). SlotStands shape c (wraps_of After) (v / SLOTS) z (v % SLOTS) (own lives v)) (sym (after_off (v / SLOTS) off)) (elsewhere_stands (v / SLOTS) (v % SLOTS) (segments (v / SLOTS)) (own lives v) (stand.slots v v_in))
       ])
     ]
 
     pub running_after : Running shape segments → Running shape After
-    running_after running v v_in active = elim (cases_eq (v / 16) G) [
+    running_after running v v_in active = elim (cases_eq (v / SLOTS) G) [
       | inl seg ↦
-          let here : (slot_in s2.header (v % 16)).state ≡ 1 = subst (λ (z : Segment). (slot_in z.header (v % 16)).state ≡ 1) after_at (subst (λ (z : ℕ). (slot_in (After z).header (v % 16)).state ≡ 1) seg active) in
-          subst (λ (z : ℕ). RunningSlot (After z).header (slot_in (After z).header (v % 16))) (sym seg) (subst (λ (z : Segment). RunningSlot z.header (slot_in z.header (v % 16))) (sym after_at) (elim (cases_eq (v % 16) I) [
+          let here : (slot_in s2.header (v % SLOTS)).state ≡ 1 = subst (λ (z : Segment). (slot_in z.header (v % SLOTS)).state ≡ 1) after_at (subst (λ (z : ℕ). (slot_in (After z).header (v % SLOTS)).state ≡ 1) seg active) in
+          subst (λ (z : ℕ). RunningSlot (After z).header (slot_in (After z).header (v % SLOTS))) (sym seg) (subst (λ (z : Segment). RunningSlot z.header (slot_in z.header (v % SLOTS))) (sym after_at) (elim (cases_eq (v % SLOTS) I) [
             | inl at ↦ absurd (done (subst (λ (z : ℕ). (slot_in s2.header z).state ≡ 1) at here))
             | inr ne ↦
-                let runs = running_of shape commit logged segments homes past lives stand running G g_in (v % 16) (ap (λ (z : TableSlot). z.state) (sym (same (v % 16) ne)) ∙ here) in
-                subst (λ (z : TableSlot). RunningSlot s2.header z) (sym (same (v % 16) ne)) (record { started = omega (arith, runs.started, writes); few = omega (arith, runs.few, writes); begun = runs.begun; before = runs.before; wrap = runs.wrap })
+                let runs = running_of shape commit logged segments homes past lives stand running G g_in (v % SLOTS) (ap (λ (z : TableSlot). z.state) (sym (same (v % SLOTS) ne)) ∙ here) in
+                subst (λ (z : TableSlot). RunningSlot s2.header z) (sym (same (v % SLOTS) ne)) (record { started = omega (arith, runs.started, writes); few = omega (arith, runs.few, writes); begun = runs.begun; before = runs.before; wrap = runs.wrap })
           ]))
       | inr off ↦
-          let is = after_off (v / 16) off in
-          let was : (slot_of segments v).state ≡ 1 = ap (λ (z : Segment). (slot_in z.header (v % 16)).state) (sym is) ∙ active in
-          subst (λ (z : Segment). RunningSlot z.header (slot_in z.header (v % 16))) (sym is) (running v v_in was)
+          let is = after_off (v / SLOTS) off in
+          let was : (slot_of segments v).state ≡ 1 = ap (λ (z : Segment). (slot_in z.header (v % SLOTS)).state) (sym is) ∙ active in
+          subst (λ (z : Segment). RunningSlot z.header (slot_in z.header (v % SLOTS))) (sym is) (running v v_in was)
     ]
 
     -- what an order of the one segment and of the others gives
@@ -134,9 +135,9 @@ module _ (shape : Shape) (commit logged : ℕ) (segments : ℕ → Segment) (hom
     ]
 
     pub newest_other : (v : ℕ) → v ≢ t → (slot_of After v).newest ≡ (slot_of segments v).newest
-    newest_other v ne = elim (cases_eq (v / 16) G) [
-      | inl seg ↦ ap (λ (z : ℕ). (slot_in (After z).header (v % 16)).newest) seg ∙ (ap (λ (z : Segment). (slot_in z.header (v % 16)).newest) after_at ∙ (ap (λ (z : TableSlot). z.newest) (same (v % 16) (λ is. ne (one_slot v t seg is))) ∙ ap (λ (z : ℕ). (slot_in (segments z).header (v % 16)).newest) (sym seg)))
-      | inr off ↦ ap (λ (z : Segment). (slot_in z.header (v % 16)).newest) (after_off (v / 16) off)
+    newest_other v ne = elim (cases_eq (v / SLOTS) G) [
+      | inl seg ↦ ap (λ (z : ℕ). (slot_in (After z).header (v % SLOTS)).newest) seg ∙ (ap (λ (z : Segment). (slot_in z.header (v % SLOTS)).newest) after_at ∙ (ap (λ (z : TableSlot). z.newest) (same (v % SLOTS) (λ is. ne (one_slot v t seg is))) ∙ ap (λ (z : ℕ). (slot_in (segments z).header (v % SLOTS)).newest) (sym seg)))
+      | inr off ↦ ap (λ (z : Segment). (slot_in z.header (v % SLOTS)).newest) (after_off (v / SLOTS) off)
     ]
 
   module _ (active : (slot_of segments t).state ≡ 1) where
@@ -175,11 +176,11 @@ module _ (shape : Shape) (commit logged : ℕ) (segments : ℕ → Segment) (hom
       newest_now : (slot_of AfterDone t).newest ≡ c
       newest_now = ap (λ (z : Segment). (slot_in z.header I).newest) (at_segment G Done segments) ∙ ap (λ (z : TableSlot). z.newest) done_slot
 
-      newest_low : (v : ℕ) → v < 16 * shape.segments → v ≢ t → (slot_of AfterDone v).newest < c
+      newest_low : (v : ℕ) → v < SLOTS * shape.segments → v ≢ t → (slot_of AfterDone v).newest < c
       newest_low v v_in ne =
           let a = newest_other c (omega (arith, next)) Done commits.ages not_active done_other commits.wrap turns commits.records refl stay_committed v ne in
-          let d = div-add-mod v 16 in
-          let b = ((stand.in_order (v / 16) (omega (arith, d, v_in))).header.slots (v % 16) (slot_few v)).newest in
+          let d = div-add-mod v SLOTS in
+          let b = ((stand.in_order (v / SLOTS) (omega (arith, d, v_in))).header.slots (v % SLOTS) (slot_few v)).newest in
           omega (arith, a, b, next)
 
       pub standing_committed : StandingAs shape c (logged + 1) AfterDone homes (committed_past segments t c past lives) Without

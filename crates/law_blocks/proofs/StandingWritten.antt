@@ -4,6 +4,7 @@ use Rattle.std.proofs.lemmas.Bool.{cases_eq, cases_lt}
 use Rattle.std.proofs.lemmas.Bool.Decides.{nat_tests}
 use Rattle.std.proofs.lemmas.List.{get_or-set_same, get_or-set_other, length-set, get_or_past}
 use Rattle.std.proofs.Math.Nat.{div-add-mod, mod-lt}
+use Rattle.rb_base.specs.declared.sizes.TheConstants.{SLOTS}
 use Rattle.rb_base.specs.Addresses.{no_uba}
 use Rattle.rb_base.specs.declared.ids.Uba.{Uba}
 use Rattle.rb_base.specs.declared.ids.Xid.{Xid}
@@ -32,16 +33,16 @@ use Rattle.law_home.proofs.Lives.{own_within}
 use Rattle.rb_txntable.specs.declared.looks.Look.TheVariants as looks
 
 -- the slots of a segment, counted over all
-pub slot_number : (g i : ℕ) → i < 16 → ((16 * g + i) / 16 ≡ g) × ((16 * g + i) % 16 ≡ i)
-slot_number g i few = let a = div-add-mod (16 * g + i) 16 in let b = mod-lt (16 * g + i) (sixteen) in (omega (arith, a, b, few), omega (arith, a, b, few))
+pub slot_number : (g i : ℕ) → i < SLOTS → ((SLOTS * g + i) / SLOTS ≡ g) × ((SLOTS * g + i) % SLOTS ≡ i)
+slot_number g i few = let a = div-add-mod (SLOTS * g + i) SLOTS in let b = mod-lt (SLOTS * g + i) (sixteen) in (omega (arith, a, b, few), omega (arith, a, b, few))
   where
-    sixteen : 0 < 16
+    sixteen : 0 < SLOTS
     sixteen = omega arith
 
-pub slot_few : (t : ℕ) → t % 16 < 16
+pub slot_few : (t : ℕ) → t % SLOTS < SLOTS
 slot_few t = mod-lt t (sixteen)
   where
-    sixteen : 0 < 16
+    sixteen : 0 < SLOTS
     sixteen = omega arith
 
 -- a look of a slot's own wrap while it is Active
@@ -50,14 +51,14 @@ own_look slot is = let a : nat_lt slot.wrap slot.wrap ≡ false = grind (arith, 
 
 module _ (shape : Shape) (commit logged : ℕ) (segments : ℕ → Segment) (homes : ℕ → Home) (past : Past) (lives : List (List Change)) (stand : StandingAs shape commit logged segments homes past lives) (running : Running shape segments) where
   -- the facts of a slot, by its segment
-  slot_stands : (g i : ℕ) → g < shape.segments → i < 16 → SlotStands shape commit (wraps_of segments) g (segments g) i (own lives (16 * g + i))
+  slot_stands : (g i : ℕ) → g < shape.segments → i < SLOTS → SlotStands shape commit (wraps_of segments) g (segments g) i (own lives (SLOTS * g + i))
   slot_stands g i g_in few =
       let n = slot_number g i few in
-      let at : SlotStands shape commit (wraps_of segments) ((16 * g + i) / 16) (segments ((16 * g + i) / 16)) ((16 * g + i) % 16) (own lives (16 * g + i)) = stand.slots (16 * g + i) (omega (arith, g_in, few)) in
-      subst (λ (z : ℕ). SlotStands shape commit (wraps_of segments) g (segments g) z (own lives (16 * g + i))) n.1 (subst (λ (z : ℕ). SlotStands shape commit (wraps_of segments) z (segments z) ((16 * g + i) % 16) (own lives (16 * g + i))) n.0 at)
+      let at : SlotStands shape commit (wraps_of segments) ((SLOTS * g + i) / SLOTS) (segments ((SLOTS * g + i) / SLOTS)) ((SLOTS * g + i) % SLOTS) (own lives (SLOTS * g + i)) = stand.slots (SLOTS * g + i) (omega (arith, g_in, few)) in
+      subst (λ (z : ℕ). SlotStands shape commit (wraps_of segments) g (segments g) z (own lives (SLOTS * g + i))) n.1 (subst (λ (z : ℕ). SlotStands shape commit (wraps_of segments) z (segments z) ((SLOTS * g + i) % SLOTS) (own lives (SLOTS * g + i))) n.0 at)
 
-  active_few : (g j : ℕ) → g < shape.segments → (slot_in (segments g).header j).state ≡ 1 → j < 16
-  active_few g j g_in active = elim (cases_lt j 16) [
+  active_few : (g j : ℕ) → g < shape.segments → (slot_in (segments g).header j).state ≡ 1 → j < SLOTS
+  active_few g j g_in active = elim (cases_lt j SLOTS) [
     | inl few ↦ few
     | inr past ↦ let none : (slot_in (segments g).header j).state ≡ 0 = ap (λ (z : TableSlot). z.state) (get_or_past (segments g).header.slots j no_slot (omega (arith, past, (stand.in_order g g_in).header.slots_counted))) in absurd (omega (arith, none, active))
   ]
@@ -69,27 +70,27 @@ module _ (shape : Shape) (commit logged : ℕ) (segments : ℕ → Segment) (hom
   running_of g g_in j active =
       let few = active_few g j g_in active in
       let n = slot_number g j few in
-      let is : (slot_of segments (16 * g + j)).state ≡ 1 = ap (λ (z : ℕ). (slot_in (segments z).header ((16 * g + j) % 16)).state) n.0 ∙ (ap (λ (z : ℕ). (slot_in (segments g).header z).state) n.1 ∙ active) in
-      let at : RunningSlot (segments ((16 * g + j) / 16)).header (slot_in (segments ((16 * g + j) / 16)).header ((16 * g + j) % 16)) = running (16 * g + j) (omega (arith, g_in, few)) is in
-      subst (λ (z : ℕ). RunningSlot (segments g).header (slot_in (segments g).header z)) n.1 (subst (λ (z : ℕ). RunningSlot (segments z).header (slot_in (segments z).header ((16 * g + j) % 16))) n.0 at)
+      let is : (slot_of segments (SLOTS * g + j)).state ≡ 1 = ap (λ (z : ℕ). (slot_in (segments z).header ((SLOTS * g + j) % SLOTS)).state) n.0 ∙ (ap (λ (z : ℕ). (slot_in (segments g).header z).state) n.1 ∙ active) in
+      let at : RunningSlot (segments ((SLOTS * g + j) / SLOTS)).header (slot_in (segments ((SLOTS * g + j) / SLOTS)).header ((SLOTS * g + j) % SLOTS)) = running (SLOTS * g + j) (omega (arith, g_in, few)) is in
+      subst (λ (z : ℕ). RunningSlot (segments g).header (slot_in (segments g).header z)) n.1 (subst (λ (z : ℕ). RunningSlot (segments z).header (slot_in (segments z).header ((SLOTS * g + j) % SLOTS))) n.0 at)
 
   -- what has live changes is Active
   pub goes_active : (g j : ℕ) → Goes lives g j → (slot_in (segments g).header j).state ≡ 1
   goes_active g j goes =
-      let t_in : goes.0 < 16 * shape.segments = let a = own_within lives goes.0 goes.3.0 goes.3.1 goes.3.2 in omega (arith, a, stand.slots_counted) in
+      let t_in : goes.0 < SLOTS * shape.segments = let a = own_within lives goes.0 goes.3.0 goes.3.1 goes.3.2 in omega (arith, a, stand.slots_counted) in
       let at = stand.slots goes.0 t_in in
       let is : (slot_of segments goes.0).state ≡ 1 = elim (cases_eq (slot_of segments goes.0).state 1) [
         | inl one ↦ one
         | inr ne ↦ let none : own lives goes.0 ≡ [] = at.idle ne in let some : own lives goes.0 ≡ goes.3.0 ∷ goes.3.1 = goes.3.2 in absurd (cc)
       ] in
-      subst (λ (z : ℕ). (slot_in (segments g).header z).state ≡ 1) goes.2 (subst (λ (z : ℕ). (slot_in (segments z).header (goes.0 % 16)).state ≡ 1) goes.1 is)
+      subst (λ (z : ℕ). (slot_in (segments g).header z).state ≡ 1) goes.2 (subst (λ (z : ℕ). (slot_in (segments z).header (goes.0 % SLOTS)).state ≡ 1) goes.1 is)
 
-  module _ (homes2 : ℕ → Home) (t : ℕ) (kind : Kind) (address : Uba) (u : UndoRecord) (t_in : t < 16 * shape.segments) (after : ℕ → Segment) (w : Written shape commit segments after homes homes2 lives t kind address u) where
+  module _ (homes2 : ℕ → Home) (t : ℕ) (kind : Kind) (address : Uba) (u : UndoRecord) (t_in : t < SLOTS * shape.segments) (after : ℕ → Segment) (w : Written shape commit segments after homes homes2 lives t kind address u) where
     abbrev G : ℕ
-    G = t / 16
+    G = t / SLOTS
 
     abbrev I : ℕ
-    I = t % 16
+    I = t % SLOTS
 
     abbrev S : Segment
     S = segments G
@@ -98,9 +99,9 @@ module _ (shape : Shape) (commit logged : ℕ) (segments : ℕ → Segment) (hom
     S2 = w.segment
 
     g_in : G < shape.segments
-    g_in = let a = div-add-mod t 16 in omega (arith, a, t_in)
+    g_in = let a = div-add-mod t SLOTS in omega (arith, a, t_in)
 
-    i_few : I < 16
+    i_few : I < SLOTS
     i_few = slot_few t
 
     order : SegmentInOrder commit logged S
@@ -214,23 +215,23 @@ module _ (shape : Shape) (commit logged : ℕ) (segments : ℕ → Segment) (hom
       idle = old.idle;
     }
 
-    slots_after : (v : ℕ) → v < 16 * shape.segments → SlotStands shape commit (wraps_of after) (v / 16) (after (v / 16)) (v % 16) (own Longer v)
+    slots_after : (v : ℕ) → v < SLOTS * shape.segments → SlotStands shape commit (wraps_of after) (v / SLOTS) (after (v / SLOTS)) (v % SLOTS) (own Longer v)
     slots_after v v_in = elim (cases_eq v t) [
-      | inl at ↦ subst (λ (z : ℕ). SlotStands shape commit (wraps_of after) (z / 16) (after (z / 16)) (z % 16) (own Longer z)) (sym at)
+      | inl at ↦ subst (λ (z : ℕ). SlotStands shape commit (wraps_of after) (z / SLOTS) (after (z / SLOTS)) (z % SLOTS) (own Longer z)) (sym at)
           (subst (λ (z : Segment). SlotStands shape commit (wraps_of after) G z I (own Longer t)) (sym after_at) (subst (λ (z : List Change). SlotStands shape commit (wraps_of after) G S2 I z) (sym (get_or-set_same lives t (change_made shape t kind address u ∷ own lives t) [] (omega (arith, t_in, stand.slots_counted)))) own_stands))
-      | inr ne ↦ subst (λ (z : List Change). SlotStands shape commit (wraps_of after) (v / 16) (after (v / 16)) (v % 16) z) (sym (get_or-set_other lives t v (change_made shape t kind address u ∷ own lives t) [] ne)) (elim (cases_eq (v / 16) G) [
+      | inr ne ↦ subst (λ (z : List Change). SlotStands shape commit (wraps_of after) (v / SLOTS) (after (v / SLOTS)) (v % SLOTS) z) (sym (get_or-set_other lives t v (change_made shape t kind address u ∷ own lives t) [] ne)) (elim (cases_eq (v / SLOTS) G) [
         | inl seg ↦
-            let old : SlotStands shape commit (wraps_of segments) G S (v % 16) (own lives v) = subst (λ (z : ℕ). SlotStands shape commit (wraps_of segments) z (segments z) (v % 16) (own lives v)) seg (stand.slots v v_in) in
-            let nj : v % 16 ≢ I = λ is. ne (one_slot v t seg is) in
-            subst (λ (z : ℕ). SlotStands shape commit (wraps_of after) z (after z) (v % 16) (own lives v)) (sym seg) (subst (λ (z : Segment). SlotStands shape commit (wraps_of after) G z (v % 16) (own lives v)) (sym after_at) (beside_stands (v % 16) (own lives v) nj old))
-        | inr off ↦ subst (λ (z : Segment). SlotStands shape commit (wraps_of after) (v / 16) z (v % 16) (own lives v)) (sym (after_off (v / 16) off)) (elsewhere_stands (v / 16) (v % 16) (segments (v / 16)) (own lives v) (stand.slots v v_in))
+            let old : SlotStands shape commit (wraps_of segments) G S (v % SLOTS) (own lives v) = subst (λ (z : ℕ). SlotStands shape commit (wraps_of segments) z (segments z) (v % SLOTS) (own lives v)) seg (stand.slots v v_in) in
+            let nj : v % SLOTS ≢ I = λ is. ne (one_slot v t seg is) in
+            subst (λ (z : ℕ). SlotStands shape commit (wraps_of after) z (after z) (v % SLOTS) (own lives v)) (sym seg) (subst (λ (z : Segment). SlotStands shape commit (wraps_of after) G z (v % SLOTS) (own lives v)) (sym after_at) (beside_stands (v % SLOTS) (own lives v) nj old))
+        | inr off ↦ subst (λ (z : Segment). SlotStands shape commit (wraps_of after) (v / SLOTS) z (v % SLOTS) (own lives v)) (sym (after_off (v / SLOTS) off)) (elsewhere_stands (v / SLOTS) (v % SLOTS) (segments (v / SLOTS)) (own lives v) (stand.slots v v_in))
       ])
     ]
 
     newest_stays : (v : ℕ) → (slot_of after v).newest ≡ (slot_of segments v).newest
-    newest_stays v = elim (cases_eq (v / 16) G) [
-      | inl seg ↦ ap (λ (z : ℕ). (slot_in (after z).header (v % 16)).newest) seg ∙ (ap (λ (z : Segment). (slot_in z.header (v % 16)).newest) after_at ∙ (newest_same S I address u S2 w.records commit logged order i_few (keeps_of G g_in) (running_of G g_in) w.slot w.wrap (v % 16) ∙ ap (λ (z : ℕ). (slot_in (segments z).header (v % 16)).newest) (sym seg)))
-      | inr off ↦ ap (λ (z : Segment). (slot_in z.header (v % 16)).newest) (after_off (v / 16) off)
+    newest_stays v = elim (cases_eq (v / SLOTS) G) [
+      | inl seg ↦ ap (λ (z : ℕ). (slot_in (after z).header (v % SLOTS)).newest) seg ∙ (ap (λ (z : Segment). (slot_in z.header (v % SLOTS)).newest) after_at ∙ (newest_same S I address u S2 w.records commit logged order i_few (keeps_of G g_in) (running_of G g_in) w.slot w.wrap (v % SLOTS) ∙ ap (λ (z : ℕ). (slot_in (segments z).header (v % SLOTS)).newest) (sym seg)))
+      | inr off ↦ ap (λ (z : Segment). (slot_in z.header (v % SLOTS)).newest) (after_off (v / SLOTS) off)
     ]
 
     pub standing_written : StandingAs shape commit (logged + 1) after homes2 past Longer
@@ -247,15 +248,15 @@ module _ (shape : Shape) (commit logged : ℕ) (segments : ℕ → Segment) (hom
     }
 
     pub running_written : Running shape after
-    running_written v v_in active = elim (cases_eq (v / 16) G) [
+    running_written v v_in active = elim (cases_eq (v / SLOTS) G) [
       | inl seg ↦
-          let here : (slot_in S2.header (v % 16)).state ≡ 1 = subst (λ (z : Segment). (slot_in z.header (v % 16)).state ≡ 1) after_at (subst (λ (z : ℕ). (slot_in (after z).header (v % 16)).state ≡ 1) seg active) in
-          subst (λ (z : ℕ). RunningSlot (after z).header (slot_in (after z).header (v % 16))) (sym seg) (subst (λ (z : Segment). RunningSlot z.header (slot_in z.header (v % 16))) (sym after_at) (elim (cases_eq (v % 16) I) [
+          let here : (slot_in S2.header (v % SLOTS)).state ≡ 1 = subst (λ (z : Segment). (slot_in z.header (v % SLOTS)).state ≡ 1) after_at (subst (λ (z : ℕ). (slot_in (after z).header (v % SLOTS)).state ≡ 1) seg active) in
+          subst (λ (z : ℕ). RunningSlot (after z).header (slot_in (after z).header (v % SLOTS))) (sym seg) (subst (λ (z : Segment). RunningSlot z.header (slot_in z.header (v % SLOTS))) (sym after_at) (elim (cases_eq (v % SLOTS) I) [
             | inl at ↦ subst (λ (z : ℕ). RunningSlot S2.header (slot_in S2.header z)) (sym at) (running_own S I address u S2 w.records commit logged order i_few (keeps_of G g_in) (running_of G g_in) w.slot w.wrap)
-            | inr ne ↦ running_other S I address u S2 w.records commit logged order i_few (keeps_of G g_in) (running_of G g_in) w.slot w.wrap (v % 16) ne (ap (λ (z : TableSlot). z.state) (sym (other_slot_same S I address u S2 w.records commit logged order i_few (keeps_of G g_in) (running_of G g_in) w.slot w.wrap (v % 16) ne)) ∙ here)
+            | inr ne ↦ running_other S I address u S2 w.records commit logged order i_few (keeps_of G g_in) (running_of G g_in) w.slot w.wrap (v % SLOTS) ne (ap (λ (z : TableSlot). z.state) (sym (other_slot_same S I address u S2 w.records commit logged order i_few (keeps_of G g_in) (running_of G g_in) w.slot w.wrap (v % SLOTS) ne)) ∙ here)
           ]))
       | inr off ↦
-          let same = after_off (v / 16) off in
-          let was : (slot_of segments v).state ≡ 1 = ap (λ (z : Segment). (slot_in z.header (v % 16)).state) (sym same) ∙ active in
-          subst (λ (z : Segment). RunningSlot z.header (slot_in z.header (v % 16))) (sym same) (running v v_in was)
+          let same = after_off (v / SLOTS) off in
+          let was : (slot_of segments v).state ≡ 1 = ap (λ (z : Segment). (slot_in z.header (v % SLOTS)).state) (sym same) ∙ active in
+          subst (λ (z : Segment). RunningSlot z.header (slot_in z.header (v % SLOTS))) (sym same) (running v v_in was)
     ]

@@ -2,6 +2,7 @@
 use Rattle.std.proofs.Common.{◌≡◌, ◌<◌, ◌≤◌, ◌==◌, ◌+◌, ◌-◌, ◌*◌, ◌/◌, ◌%◌, ℕ, Bool, if◌then◌else◌, List, length, Some, refl, sym, ◌∙◌, ap, arith}
 use Rattle.std.proofs.Math.Nat.{mod-lt}
 use Rattle.std.proofs.lemmas.Nat.{mod-mul-add}
+use Rattle.rb_base.specs.declared.sizes.TheConstants.{SLOTS}
 use Rattle.rb_base.specs.Blocks.{block_of, table_blocks}
 use Rattle.rb_base.specs.declared.ids.Uba.{Uba}
 use Rattle.rb_base.specs.declared.ids.Xid.{Xid}
@@ -28,8 +29,8 @@ use Rattle.law_blocks.proofs.WriteMoves as write
 use Rattle.rb_undoblock.specs.declared.record.UndoRecord.{UndoRecord}
 use Rattle.law_home.specs.Walk.{Change, Home}
 
-module _ (h : State) (xids : List Xid) (before now : List (List ℕ)) (s t : ℕ) (adds : Bool) (c : model.Change) (kind : Kind) (address : Uba) (u : UndoRecord) (t_in : t < 16 * h.shape.segments) (s_in : (1 ≤ s) × (s ≤ length h.sessions)) (stand : BlocksStand h xids before) (takes : Takes h (segments_of h.shape before) s t) (home_in : u.home < table_blocks h.shape)
-    (free : IsNotHeld (cleaned_home (env_of h.shape before).look (home_of (block_of before u.home))) (record { seg = t / 16; slot = t % 16; wrap = u.wrap }) u.key) (is : IsWritten h.shape t adds kind address u before now) (same : SameChange h.shape c kind address u) (room : HasRoomFor h.shape before t) where
+module _ (h : State) (xids : List Xid) (before now : List (List ℕ)) (s t : ℕ) (adds : Bool) (c : model.Change) (kind : Kind) (address : Uba) (u : UndoRecord) (t_in : t < SLOTS * h.shape.segments) (s_in : (1 ≤ s) × (s ≤ length h.sessions)) (stand : BlocksStand h xids before) (takes : Takes h (segments_of h.shape before) s t) (home_in : u.home < table_blocks h.shape)
+    (free : IsNotHeld (cleaned_home (env_of h.shape before).look (home_of (block_of before u.home))) (record { seg = t / SLOTS; slot = t % SLOTS; wrap = u.wrap }) u.key) (is : IsWritten h.shape t adds kind address u before now) (same : SameChange h.shape c kind address u) (room : HasRoomFor h.shape before t) where
   abbrev Segs : ℕ → Segment
   Segs = segments_of h.shape before
 
@@ -69,13 +70,13 @@ module _ (h : State) (xids : List Xid) (before now : List (List ℕ)) (s t : ℕ
       record { owner = own.0; at = own.1; session = own.2 }
 
   -- under the id of the record,
-  pub id_after : xid_by (segments_of h.shape now) t ≡ record { seg = t / 16; slot = t % 16; wrap = u.wrap }
+  pub id_after : xid_by (segments_of h.shape now) t ≡ record { seg = t / SLOTS; slot = t % SLOTS; wrap = u.wrap }
   id_after =
       ap (λ (z : ℕ → Segment). xid_by z t) (write.moved h.shape before now (past_of h xids) Lives stand.standing stand.tell.running t t_in adds kind address u home_in is free key_here)
       ∙ xid_after h.shape before now (past_of h xids) Lives stand.standing stand.tell.running t t_in adds kind address u home_in is
 
   -- and each slot that was owned keeps its own,
-  pub ids_after : (v : ℕ) (o : Owner) → v < 16 * h.shape.segments → owner_at h v ≡ Some o → xid_by (segments_of h.shape now) v ≡ xid_by Segs v
+  pub ids_after : (v : ℕ) (o : Owner) → v < SLOTS * h.shape.segments → owner_at h v ≡ Some o → xid_by (segments_of h.shape now) v ≡ xid_by Segs v
   ids_after v o v_in at =
       ap (λ (z : ℕ → Segment). xid_by z v) (write.moved h.shape before now (past_of h xids) Lives stand.standing stand.tell.running t t_in adds kind address u home_in is free key_here)
       ∙ xid_stays h xids (commit_scn h.shape before) (logged_of h.shape before) Segs (homes_of h.shape before) (blocks_as h xids before stand) After Homes2 s t c kind address u t_in s_in takes

@@ -4,6 +4,10 @@ use Rattle.std.proofs.Common.{◌≡◌, ◌≢◌, ◌⊎◌, ◌<◌, ◌≤�
 use Rattle.std.proofs.lemmas.Bool.{cases_eq, false≢true}
 use Rattle.std.proofs.lemmas.List.{get_or-set_same, get_or-set_other}
 use Rattle.std.proofs.Math.Nat.{div-add-mod}
+use Rattle.rb_base.specs.declared.sizes.TheConstants.{SLOTS}
+use Rattle.rb_ring.specs.declared.extents.TheConstants.{EXTENTS, EXTENT_RECORDS}
+use Rattle.rb_itl.specs.declared.slots.TheConstants.{ENTRIES}
+use Rattle.rb_cell.specs.declared.cell.TheConstants.{CELLS}
 use Rattle.rb_base.specs.Blocks.{block_of, shape_blocks, table_blocks}
 use Rattle.rb_base.specs.declared.ids.Uba.{Uba}
 use Rattle.rb_base.specs.declared.shape.Shape.{Shape}
@@ -48,13 +52,13 @@ use Rattle.law_home.specs.Walk.{Change, Head, Walk, own}
 use Rattle.law_home.proofs.Homes.{live_here}
 use Rattle.law_home.proofs.Lives.{first}
 
-module _ (shape : Shape) (before now : List (List ℕ)) (past : Past) (lives : List (List Change)) (stand : Standing shape before past lives) (running : Running shape (segments_of shape before)) (t : ℕ) (t_in : t < 16 * shape.segments) (adds : Bool) (kind : Kind) (address : Uba) (u : UndoRecord) (home_in : u.home < table_blocks shape) (is : IsWritten shape t adds kind address u before now)
-    (free : IsNotHeld (blocks.Cleaned shape before now past lives stand running t t_in adds kind address u home_in is) (record { seg = t / 16; slot = t % 16; wrap = u.wrap }) u.key) (key_here : u.key % shape.blocks ≡ u.home % shape.blocks) where
+module _ (shape : Shape) (before now : List (List ℕ)) (past : Past) (lives : List (List Change)) (stand : Standing shape before past lives) (running : Running shape (segments_of shape before)) (t : ℕ) (t_in : t < SLOTS * shape.segments) (adds : Bool) (kind : Kind) (address : Uba) (u : UndoRecord) (home_in : u.home < table_blocks shape) (is : IsWritten shape t adds kind address u before now)
+    (free : IsNotHeld (blocks.Cleaned shape before now past lives stand running t t_in adds kind address u home_in is) (record { seg = t / SLOTS; slot = t % SLOTS; wrap = u.wrap }) u.key) (key_here : u.key % shape.blocks ≡ u.home % shape.blocks) where
   abbrev G : ℕ
-  G = t / 16
+  G = t / SLOTS
 
   abbrev I : ℕ
-  I = t % 16
+  I = t % SLOTS
 
   abbrev Segs : ℕ → Segment
   Segs = segments_of shape before
@@ -93,7 +97,7 @@ module _ (shape : Shape) (before now : List (List ℕ)) (past : Past) (lives : L
   stands = standing_written shape Commit Logged Segs (homes_of shape before) past lives stand.stands running Homes2 t kind address u t_in After values
 
   g_in : G < shape.segments
-  g_in = let a = div-add-mod t 16 in omega (arith, a, t_in)
+  g_in = let a = div-add-mod t SLOTS in omega (arith, a, t_in)
 
   abbrev Order : SegmentInOrder Commit Logged S
   Order = blocks.order shape before now past lives stand running t t_in adds kind address u home_in is
@@ -117,7 +121,7 @@ module _ (shape : Shape) (before now : List (List ℕ)) (past : Past) (lives : L
   runs_now = running_own S I address u Made Rec Commit Logged Order (slot_few t) Keeps Runs is.recorded.slot wrap_is
 
   -- the slot's live changes are those that the ring has room for
-  lives_few : suc (length (own lives t)) ≤ 320
+  lives_few : suc (length (own lives t)) ≤ (EXTENTS * EXTENT_RECORDS)
   lives_few =
       let slot = own_slot S I address u Made Rec Commit Logged Order (slot_few t) Keeps Runs is.recorded.slot wrap_is in
       let count : (slot_in Made.header I).live ≡ (slot_in is.recorded.ready I).live + 1 = ap (λ (z : TableSlot). z.live) slot in
@@ -130,7 +134,7 @@ module _ (shape : Shape) (before now : List (List ℕ)) (past : Past) (lives : L
   New = block_of now u.home
 
   abbrev E : entries.Entry
-  E = entry_after (record { seg = t / 16; slot = t % 16; wrap = u.wrap }) address (heap.home_entry Cleaned u.entry)
+  E = entry_after (record { seg = t / SLOTS; slot = t % SLOTS; wrap = u.wrap }) address (heap.home_entry Cleaned u.entry)
 
   abbrev C : cells.Cell
   C = cell_after kind u.key u.entry (heap.home_cell Cleaned u.cell)
@@ -138,10 +142,10 @@ module _ (shape : Shape) (before now : List (List ℕ)) (past : Past) (lives : L
   home_now : heap.home_of New ≡ heap.with_home_entry (heap.with_home_cell Cleaned u.cell C) u.entry E
   home_now = blocks.home_now shape before now past lives stand running t t_in adds kind address u home_in is
 
-  abbrev Kept : KeepsHome Cleaned (block_of before u.home) (record { seg = t / 16; slot = t % 16; wrap = u.wrap }) adds kind u
+  abbrev Kept : KeepsHome Cleaned (block_of before u.home) (record { seg = t / SLOTS; slot = t % SLOTS; wrap = u.wrap }) adds kind u
   Kept = blocks.keeps shape before now past lives stand running t t_in adds kind address u home_in is
 
-  cell_few : u.cell < 16
+  cell_few : u.cell < CELLS
   cell_few = blocks.cell_few shape before now past lives stand running t t_in adds kind address u home_in is
 
   -- each entry and each cell of the block
@@ -150,10 +154,10 @@ module _ (shape : Shape) (before now : List (List ℕ)) (past : Past) (lives : L
       sym (entry_read New u.entry itl.free_entry Kept.entry.within) ∙ ap (λ (h : heap.Home). get_or h.entries u.entry itl.free_entry) home_now
       ∙ get_or-set_same Cleaned.entries u.entry E itl.free_entry (let n = eight in let w = Kept.entry.within in omega (arith, n, w))
     where
-      eight : length Cleaned.entries ≡ 8
+      eight : length Cleaned.entries ≡ ENTRIES
       eight = blocks.eight shape before now past lives stand running t t_in adds kind address u home_in is
 
-  entry_other : (i : ℕ) → i < 8 → i ≢ u.entry → itl.entry_at New i ≡ heap.home_entry Cleaned i
+  entry_other : (i : ℕ) → i < ENTRIES → i ≢ u.entry → itl.entry_at New i ≡ heap.home_entry Cleaned i
   entry_other i few ne =
       sym (entry_read New i itl.free_entry few) ∙ ap (λ (h : heap.Home). get_or h.entries i itl.free_entry) home_now
       ∙ get_or-set_other Cleaned.entries u.entry i E itl.free_entry ne
@@ -163,10 +167,10 @@ module _ (shape : Shape) (before now : List (List ℕ)) (past : Past) (lives : L
       sym (cell_read New u.cell heap.empty_cell cell_few) ∙ ap (λ (h : heap.Home). get_or h.cells u.cell heap.empty_cell) home_now
       ∙ get_or-set_same Cleaned.cells u.cell C heap.empty_cell (let n = sixteen in omega (arith, n, cell_few))
     where
-      sixteen : length Cleaned.cells ≡ 16
+      sixteen : length Cleaned.cells ≡ CELLS
       sixteen = blocks.sixteen shape before now past lives stand running t t_in adds kind address u home_in is
 
-  cell_other : (c : ℕ) → c < 16 → c ≢ u.cell → cells_of.cell_at New c ≡ heap.home_cell Cleaned c
+  cell_other : (c : ℕ) → c < CELLS → c ≢ u.cell → cells_of.cell_at New c ≡ heap.home_cell Cleaned c
   cell_other c few ne =
       sym (cell_read New c heap.empty_cell few) ∙ ap (λ (h : heap.Home). get_or h.cells c heap.empty_cell) home_now
       ∙ get_or-set_other Cleaned.cells u.cell c C heap.empty_cell ne
@@ -207,7 +211,7 @@ module _ (shape : Shape) (before now : List (List ℕ)) (past : Past) (lives : L
       let few = here_few u.home (own lives t) in
       let length = chain_is in
       let most = lives_few in
-      entry_made shape Commit (wraps_of After) (record { seg = t / 16; slot = t % 16; wrap = u.wrap }) address (heap.home_entry Cleaned u.entry) g_in (slot_few t) (omega (arith, wrap_is, some)) (omega (arith, given)) (omega (arith, few, length, most))
+      entry_made shape Commit (wraps_of After) (record { seg = t / SLOTS; slot = t % SLOTS; wrap = u.wrap }) address (heap.home_entry Cleaned u.entry) g_in (slot_few t) (omega (arith, wrap_is, some)) (omega (arith, given)) (omega (arith, few, length, most))
 
   cell_sound : IsCellSound shape (u.home % shape.blocks) C
   cell_sound = cell_made shape (u.home % shape.blocks) kind u.key u.entry (heap.home_cell Cleaned u.cell) key_here (λ held. keyed held Kept.cell.way) (clean.cell_in_order shape before past lives stand u.home home_in u.cell cell_few)

@@ -5,7 +5,7 @@ use Rattle.rb_base.specs.Blocks.{block_of}
 use Rattle.rb_base.specs.declared.ids.Uba.{Uba}
 use Rattle.rb_base.specs.declared.ids.Xid.{Xid}
 use Rattle.rb_base.specs.declared.shape.Shape.{Shape}
-use Rattle.rb_base.specs.declared.sizes.TheConstants.{ACTIVE}
+use Rattle.rb_base.specs.declared.sizes.TheConstants.{ACTIVE, SLOTS}
 use Rattle.law_committed.proofs.Numbers.{in_here}
 use Rattle.law_committed.specs.Files.{CommittedAt, LiveRecord, OnChain}
 use Rattle.law_committed.specs.First.{CommittedCell, IsLive}
@@ -97,25 +97,25 @@ module _ (shape : Shape) (blocks : List (List ℕ)) (past : Past) (lives : List 
   some_of [] c named = absurd named
   some_of (h ∷ more) c named = (h, more, refl)
 
-  slot_stands : (t : ℕ) → t < 16 * shape.segments → SlotStands shape (commit_scn shape blocks) (wraps_of Seg) (t / 16) (Seg (t / 16)) (t % 16) (own lives t)
+  slot_stands : (t : ℕ) → t < SLOTS * shape.segments → SlotStands shape (commit_scn shape blocks) (wraps_of Seg) (t / SLOTS) (Seg (t / SLOTS)) (t % SLOTS) (own lives t)
   slot_stands t within = stand.stands.slots t within
 
   -- a live record of the home is one on the chain
   to_chain : (t j : ℕ) (r : Undo) → IsLive (env_of shape blocks) Here t r → r.cell ≡ j
-      → (u : UndoRecord) × LiveRecord shape blocks t b j u × (walk_undo shape (t / 16) u ≡ r)
+      → (u : UndoRecord) × LiveRecord shape blocks t b j u × (walk_undo shape (t / SLOTS) u ≡ r)
   to_chain t j r live at =
       let named : In live.change (here b (own lives t)) = subst (λ (z : List Change). In live.change z) (own_here b lives t) live.live in
       let one : In live.change (own lives t) = in_here b (own lives t) live.change named in
       let f : (h : Change) × (more : List Change) × (own lives t ≡ h ∷ more) = some_of (own lives t) live.change one in
-      let counted : length lives ≡ 16 * shape.segments = stand.stands.slots_counted in
+      let counted : length lives ≡ SLOTS * shape.segments = stand.stands.slots_counted in
       let in_lives : t < length lives = own_within lives t f.0 f.1 f.2 in
-      let within : t < 16 * shape.segments = omega (arith, counted, in_lives) in
-      elim (cases_eq (slot_in (Seg (t / 16)).header (t % 16)).state ACTIVE) [
+      let within : t < SLOTS * shape.segments = omega (arith, counted, in_lives) in
+      elim (cases_eq (slot_in (Seg (t / SLOTS)).header (t % SLOTS)).state ACTIVE) [
         | inl active ↦
             let slot = (slot_stands t within).active active in
             let c = chain_to shape blocks _ _ (own lives t) _ slot.listed live.change one in
-            let same : walk_undo shape (t / 16) c.0 ≡ r =
-            let a : (env_of shape blocks).store live.change.place ≡ Some (walk_undo shape (t / 16) c.0) = c.2.0 in
+            let same : walk_undo shape (t / SLOTS) c.0 ≡ r =
+            let a : (env_of shape blocks).store live.change.place ≡ Some (walk_undo shape (t / SLOTS) c.0) = c.2.0 in
             let e : (env_of shape blocks).store live.change.place ≡ Some r = live.there in cc in
             let at_home : c.0.home ≡ b = c.2.1 ∙ home_here b (own lives t) live.change named in
             let runs : (slot_of Seg t).state ≡ ACTIVE = active in (
@@ -135,7 +135,7 @@ module _ (shape : Shape) (blocks : List (List ℕ)) (past : Past) (lives : List 
             absurd (cc)
       ]
 
-  from_chain : (t j : ℕ) (u : UndoRecord) → LiveRecord shape blocks t b j u → IsLive (env_of shape blocks) Here t (walk_undo shape (t / 16) u)
+  from_chain : (t j : ℕ) (u : UndoRecord) → LiveRecord shape blocks t b j u → IsLive (env_of shape blocks) Here t (walk_undo shape (t / SLOTS) u)
   from_chain t j u live =
       let slot = (slot_stands t live.slot).active live.active in
       let c = chain_from shape blocks _ _ (own lives t) _ slot.listed u
@@ -148,7 +148,7 @@ module _ (shape : Shape) (blocks : List (List ℕ)) (past : Past) (lives : List 
 
   pub told_by_blocks : (j : ℕ) (x : Cell) → CommittedCell (env_of shape blocks) Here (homes_of shape blocks b) j x → CommittedAt shape blocks b j x
   told_by_blocks j x is = ⊎_elim
-      (λ stays. inl (λ t u live. stays.0 t (walk_undo shape (t / 16) u) (from_chain t j u live) live.cell, stays.1))
+      (λ stays. inl (λ t u live. stays.0 t (walk_undo shape (t / SLOTS) u) (from_chain t j u live) live.cell, stays.1))
       (λ f.
       let first = f.2 in
       let c = to_chain f.0 j f.1 first.live first.cell in
@@ -159,7 +159,7 @@ module _ (shape : Shape) (blocks : List (List ℕ)) (past : Past) (lives : List 
         record {
           live = c.1;
           lowest = λ q live.
-              let low : f.1.number ≤ q.number = first.lowest (walk_undo shape (f.0 / 16) q) (from_chain f.0 j q live) live.cell in
+              let low : f.1.number ≤ q.number = first.lowest (walk_undo shape (f.0 / SLOTS) q) (from_chain f.0 j q live) live.cell in
               omega (arith, number, low);
         },
         ap (λ (z : Undo). z.cell_before) c.2 ∙ f.3,
@@ -173,7 +173,7 @@ module _ (shape : Shape) (blocks : List (List ℕ)) (past : Past) (lives : List 
       let first = f.2 in
       inr (
         f.0,
-        walk_undo shape (f.0 / 16) f.1,
+        walk_undo shape (f.0 / SLOTS) f.1,
         record {
           live = from_chain f.0 j f.1 first.live;
           cell = first.live.cell;

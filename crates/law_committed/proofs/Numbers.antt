@@ -10,7 +10,7 @@ use Rattle.law_blocks.proofs.Homes.{own_here}
 use Rattle.law_blocks.proofs.Seen.{recorded}
 use Rattle.law_blocks.specs.Says.{says, walk_undo}
 use Rattle.law_blocks.specs.Values.{Listed, Past, SlotStands, StandingAs, wraps_of}
-use Rattle.rb_base.specs.declared.sizes.TheConstants.{ACTIVE}
+use Rattle.rb_base.specs.declared.sizes.TheConstants.{ACTIVE, SLOTS}
 use Rattle.rb_undoblock.specs.declared.record.UndoRecord.{UndoRecord}
 use Rattle.law_home.proofs.Homes.{live_elsewhere, live_here}
 use Rattle.law_home.proofs.Lives.{own_within}
@@ -79,10 +79,10 @@ module _ (shape : Shape) (commit logged : ℕ) (segments : ℕ → Segment) (hom
   slot_falls : (t : ℕ) (chs : List Change) → own lives t ≡ chs → Falls (says shape segments) chs
   slot_falls t [] is = tt
   slot_falls t (ch ∷ more) is =
-      let counted : length lives ≡ 16 * shape.segments = stand.slots_counted in
+      let counted : length lives ≡ SLOTS * shape.segments = stand.slots_counted in
       let within : t < length lives = own_within lives t ch more is in
-      let slot : SlotStands shape commit (wraps_of segments) (t / 16) (segments (t / 16)) (t % 16) (own lives t) = stand.slots t (omega (arith, counted, within)) in
-      elim (cases_eq (slot_in (segments (t / 16)).header (t % 16)).state ACTIVE) [
+      let slot : SlotStands shape commit (wraps_of segments) (t / SLOTS) (segments (t / SLOTS)) (t % SLOTS) (own lives t) = stand.slots t (omega (arith, counted, within)) in
+      elim (cases_eq (slot_in (segments (t / SLOTS)).header (t % SLOTS)).state ACTIVE) [
         | inl active ↦ subst (λ (z : List Change). Falls (says shape segments) z) is
             (listed_falls shape segments _ _ (own lives t) _ (slot.active active).listed)
         | inr idle ↦ let none : own lives t ≡ [] = slot.idle idle in absurd (cc)

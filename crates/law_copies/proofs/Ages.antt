@@ -1,6 +1,7 @@
 -- Each kind of group leaves the segments that the blocks of a file hold older, by the record of the call that made it.
 use Rattle.std.proofs.Common.{◌≡◌, ◌⊎◌, inl, inr, ◌<◌, ◌≤◌, ◌*◌, ◌/◌, ◌%◌, ◌+◌, [], ℕ, Bool, List, length, ◌∙◌, ap, refl, sym, subst, arith}
 use Rattle.std.proofs.Math.Nat.{div-add-mod}
+use Rattle.rb_base.specs.declared.sizes.TheConstants.{SLOTS}
 use Rattle.law_aging.specs.Kept.{SegmentsAge}
 use Rattle.rb_base.specs.Blocks.{header_block, table_blocks}
 use Rattle.rb_base.specs.declared.ids.Uba.{Uba}
@@ -66,7 +67,7 @@ module _ (h : State) (xids : List Xid) (before now : List (List ℕ)) (stand : B
   number_is = stand.standing.stands.number ∙ last_commits h.shape h.commits.base h.commits.list xids [] stand.tell.counted refl
 
   -- the slot that a session has is there, and Active
-  within : (s t : ℕ) → Owns h s t → t < 16 * h.shape.segments
+  within : (s t : ℕ) → Owns h s t → t < SLOTS * h.shape.segments
   within s t owns = owner_within h xids Segments Homes (stood_of h xids before stand) t owns.owner owns.at
 
   active : (s t : ℕ) → Owns h s t → (slot_of Segments t).state ≡ 1
@@ -74,7 +75,7 @@ module _ (h : State) (xids : List Xid) (before now : List (List ℕ)) (stand : B
 
   pub commit_ages : (s : ℕ) (x : Xid) → Owned h s x.seg x.slot → CommitMade h xids s x before now → Older
   commit_ages s x owned made =
-      let t = 16 * x.seg + x.slot in
+      let t = SLOTS * x.seg + x.slot in
       let owns : Owns h s t = owns_of h s x.seg x.slot owned in
       subst (SegmentsAge Segments) (sym (segments_committed h.shape t (last_scn h.commits + 1) before now made.group))
       (done h.shape Number Logged t (last_scn h.commits + 1) Segments Homes (past_of h xids) Lives (within s t owns) runs (active s t owns)
@@ -82,7 +83,7 @@ module _ (h : State) (xids : List Xid) (before now : List (List ℕ)) (stand : B
 
   pub end_ages : (s : ℕ) (x : Xid) → Owned h s x.seg x.slot → EndMade h xids s x before now → Older
   end_ages s x owned made =
-      let t = 16 * x.seg + x.slot in
+      let t = SLOTS * x.seg + x.slot in
       let owns : Owns h s t = owns_of h s x.seg x.slot owned in
       subst (SegmentsAge Segments) (sym (segments_ended h.shape t before now made.group))
       (over h.shape Number Logged t Segments Homes (past_of h xids) Lives (within s t owns) stand.standing.stands (active s t owns))
@@ -91,7 +92,7 @@ module _ (h : State) (xids : List Xid) (before now : List (List ℕ)) (stand : B
   back_ages s front made =
       let t = made.slot in
       let u = made.undo in
-      let t_in : t < 16 * h.shape.segments = within s t made.owns in
+      let t_in : t < SLOTS * h.shape.segments = within s t made.owns in
       let last = walk_change h.shape (xid_by Segments t) (1 + length front) made.change in
       let more = newest_first h.shape (xid_by Segments t) 1 front [] in
       let mine = newest_is h xids Number Logged Segments Homes (blocks_as h xids before stand) s t t_in made.owns front made.change made.own in
@@ -99,10 +100,10 @@ module _ (h : State) (xids : List Xid) (before now : List (List ℕ)) (stand : B
       (back.put_values h.shape before now (past_of h xids) Lives t u last more stand.tell.in_range t_in stand.standing mine made.there made.group)
 
   -- a write into slot t, by its record
-  recorded_ages : (t : ℕ) → t < 16 * h.shape.segments → (more : Bool) (kind : Kind) (address : Uba) (u : UndoRecord) → u.home < table_blocks h.shape → IsWritten h.shape t more kind address u before now → Older
+  recorded_ages : (t : ℕ) → t < SLOTS * h.shape.segments → (more : Bool) (kind : Kind) (address : Uba) (u : UndoRecord) → u.home < table_blocks h.shape → IsWritten h.shape t more kind address u before now → Older
   recorded_ages t t_in more kind address u home_in is =
-      let g = t / 16 in
-      let g_in : g < h.shape.segments = let a = div-add-mod t 16 in omega (arith, a, t_in) in
+      let g = t / SLOTS in
+      let g_in : g < h.shape.segments = let a = div-add-mod t SLOTS in omega (arith, a, t_in) in
       let order : SegmentInOrder Number Logged (Segments g) = stand.standing.stands.in_order g g_in in
       let made : Segment = segment.Made h.shape t address u before now Number Logged order is.recorded in
       let moved = segment.segments_recorded h.shape t address u before now Number Logged order is.recorded (λ b behind no_head no_undo. block_stays h.shape (λ k. (k ≡ u.home) ⊎ (k ≡ header_block h.shape g) ⊎ (k ≡ address.block)) before now is.group b (λ at. elim at [
@@ -110,7 +111,7 @@ module _ (h : State) (xids : List Xid) (before now : List (List ℕ)) (stand : B
         | inr other ↦ elim other [ inl head ↦ no_head head | inr undo ↦ no_undo undo ]
       ])) in
       let ages : SegmentAges (λ j. (slot_in (Segments g).header j).state ≡ 1) (Segments g) made =
-      written_ages (Segments g) (t % 16) address u made (segment.recorded h.shape t address u before now Number Logged order is.recorded) Number Logged order (slot_few t)
+      written_ages (Segments g) (t % SLOTS) address u made (segment.recorded h.shape t address u before now Number Logged order is.recorded) Number Logged order (slot_few t)
       (keeps_of h.shape Number Logged Segments Homes (past_of h xids) Lives stand.standing.stands stand.tell.running g g_in)
       (running_of h.shape Number Logged Segments Homes (past_of h xids) Lives stand.standing.stands stand.tell.running g g_in) is.recorded.slot (segment.made_wrap h.shape t address u before now Number Logged order is.recorded) in
       at_one Segments (segments_of h.shape now) g made (λ k. ap (λ (f : ℕ → Segment). f k) moved) (anyway (λ j. (slot_in (Segments g).header j).state ≡ 1) (Segments g) made ages)
@@ -120,6 +121,6 @@ module _ (h : State) (xids : List Xid) (before now : List (List ℕ)) (stand : B
       let after : State = written h s x.seg x.slot (change_in h x.seg table key action) in
       let id : OwnedBy after now s x = owned_by after xids now s x made.stand made.id in
       let there : x.seg < h.shape.segments = id.there in
-      let low : x.slot < 16 = id.few in
+      let low : x.slot < SLOTS = id.few in
       let home_in : made.undo.home < table_blocks h.shape = subst (λ (b : ℕ). b < table_blocks h.shape) (sym made.of_home) (row_block h.shape table key stand.tell.in_range.few_blocks.0 first few) in
-      recorded_ages (16 * x.seg + x.slot) (omega (arith, there, low)) (adds action) (kind_by action) made.address made.undo home_in made.group
+      recorded_ages (SLOTS * x.seg + x.slot) (omega (arith, there, low)) (adds action) (kind_by action) made.address made.undo home_in made.group

@@ -3,6 +3,7 @@ use Rattle.std.proofs.Common.{◌≡◌, ◌≢◌, ◌⊎◌, inl, inr, ◌<◌
 use Rattle.std.proofs.Math.Nat.{div-add-mod}
 use Rattle.std.proofs.lemmas.Bool.{cases_eq}
 use Rattle.std.proofs.lemmas.List.{get_or-map, get_or-set_other, get_or-set_same}
+use Rattle.rb_base.specs.declared.sizes.TheConstants.{SLOTS}
 use Rattle.rb_base.specs.Blocks.{block_of, header_block, table_blocks}
 use Rattle.rb_base.specs.declared.ids.Xid.{Xid}
 use Rattle.rb_base.specs.declared.shape.Shape.{Shape}
@@ -72,7 +73,7 @@ module _ (h : State) (xids : List Xid) (s : ℕ) (front : List Change) (before n
       | inl entry ↦ inl (home, entry)
       | inr off ↦ inr (inl (here b home i off))
     ]
-    | inr other ↦ inr (same_block h.shape before now b i (block_stays h.shape (λ x. (x ≡ U.home) ⊎ (x ≡ header_block h.shape (made.slot / 16))) before now made.group.group b (λ at. elim at [
+    | inr other ↦ inr (same_block h.shape before now b i (block_stays h.shape (λ x. (x ≡ U.home) ⊎ (x ≡ header_block h.shape (made.slot / SLOTS))) before now made.group.group b (λ at. elim at [
       | inl home ↦ other home
       | inr head ↦ omega (arith, head, b_in)
     ])))
@@ -82,20 +83,20 @@ module _ (h : State) (xids : List Xid) (s : ℕ) (front : List Change) (before n
       here b at i off = rw at (ap (λ (home : Home). home_entry home i) made.group.home ∙ get_or-set_other Was.entries U.entry i (entry_of U.entry_before) free_entry off)
 
 -- a write
-module _ (h : State) (xids : List Xid) (s table key : ℕ) (action : Action) (x : Xid) (before now : List (List ℕ)) (stand : BlocksStand h xids before) (t_in : 16 * x.seg + x.slot < 16 * h.shape.segments) (made : WriteMade h xids s table key action x before now) where
+module _ (h : State) (xids : List Xid) (s table key : ℕ) (action : Action) (x : Xid) (before now : List (List ℕ)) (stand : BlocksStand h xids before) (t_in : SLOTS * x.seg + x.slot < SLOTS * h.shape.segments) (made : WriteMade h xids s table key action x before now) where
   abbrev V : UndoRecord
   V = made.undo
 
   abbrev T : ℕ
-  T = 16 * x.seg + x.slot
+  T = SLOTS * x.seg + x.slot
 
-  order : SegmentInOrder (commit_scn h.shape before) (logged_of h.shape before) (segments_of h.shape before (T / 16))
-  order = stand.standing.stands.in_order (T / 16) (let a = div-add-mod T 16 in omega (arith, a, t_in))
+  order : SegmentInOrder (commit_scn h.shape before) (logged_of h.shape before) (segments_of h.shape before (T / SLOTS))
+  order = stand.standing.stands.in_order (T / SLOTS) (let a = div-add-mod T SLOTS in omega (arith, a, t_in))
 
   row_stays : (b : ℕ) → b < table_blocks h.shape → b ≢ V.home → block_of now b ≡ block_of before b
   row_stays b b_in ne =
       let a = segment.address_within h.shape T made.address V before now (commit_scn h.shape before) (logged_of h.shape before) order made.group.recorded in
-      block_stays h.shape (λ x. (x ≡ V.home) ⊎ (x ≡ header_block h.shape (T / 16)) ⊎ (x ≡ made.address.block)) before now made.group.group b (λ at. elim at [
+      block_stays h.shape (λ x. (x ≡ V.home) ⊎ (x ≡ header_block h.shape (T / SLOTS)) ⊎ (x ≡ made.address.block)) before now made.group.group b (λ at. elim at [
         | inl home ↦ ne home
         | inr other ↦ elim other [ inl head ↦ omega (arith, head, b_in) | inr undo ↦ omega (arith, undo, b_in, a) ]
       ])

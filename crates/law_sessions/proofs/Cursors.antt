@@ -3,6 +3,7 @@ use Rattle.std.proofs.Common.{◌≡◌, inl, inr, ◌<◌, ◌≤◌, ◌*◌, 
 use Rattle.std.proofs.lemmas.Bool.{and_parts, cases_Bool, cond-false, cond-true, leb-true}
 use Rattle.std.proofs.lemmas.Slice.Eq.{bytes_eq-Decides}
 use Rattle.std.specs.Str.{bytes_eq}
+use Rattle.rb_base.specs.declared.sizes.TheConstants.{SLOTS}
 use Rattle.rb_base.specs.declared.ids.Xid.{Xid}
 use Rattle.rb_model.specs.Change as model
 use Rattle.rb_model.specs.Isolation.{snapshot_at}
@@ -161,7 +162,7 @@ module _ (h : State) (xids : List Xid) (blocks : List (List ℕ)) (table_of : Li
       by : (l : List model.Change) → session_own h s ≡ l → Frozen h xids env s (cursor_opened h k table lo hi) new
       by [] own = none (of_session.count ∙ ap (λ (l : List model.Change). length l) own)
       by (c ∷ more) own =
-          let slot : (t : ℕ) × (t < 16 * h.shape.segments) × Owns h s t = stand.tell.has_slot s c more low own in
+          let slot : (t : ℕ) × (t < SLOTS * h.shape.segments) × Owns h s t = stand.tell.has_slot s c more low own in
           live slot.0 refl slot.2 (of_session.id.owns slot.0 slot.2) (sym (ap (λ (n : ℕ). take n (session_own h s)) of_session.count ∙ take_length (session_own h s)))
 
   opened_is : IsCursor h xids env s in_memory new

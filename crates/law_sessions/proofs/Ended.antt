@@ -3,6 +3,7 @@ use Rattle.std.proofs.Common.{◌≡◌, ◌≢◌, inl, inr, ⊎_elim, ◌<◌,
 use Rattle.std.proofs.Math.ListN as lists
 use Rattle.std.proofs.Math.Seq as seq
 use Rattle.std.proofs.lemmas.List.{length-set}
+use Rattle.rb_base.specs.declared.sizes.TheConstants.{SLOTS}
 use Rattle.rb_base.specs.declared.ids.Xid.{Xid}
 use Rattle.law_crash.specs.Made.{KeepsIds}
 use Rattle.law_crash.proofs.Owners.{OwnedBy, few_slots, finished_else, finished_here, freed, id_none, left_else, left_here, owned_by, owns_of, same_owners}
@@ -74,7 +75,7 @@ module _ (h h2 : State) (s g i : ℕ) (b : Book) (books : h2.books ≡ set h.boo
   others_own u t ne o = record {
     owner = o.owner;
     at = owner_else h h2 g i b books else_same t (λ at.
-        let mine : Owns h s (16 * g + i) = owns_of h s g i slot in
+        let mine : Owns h s (SLOTS * g + i) = owns_of h s g i slot in
         let both : Some mine.owner ≡ Some o.owner = sym mine.at ∙ (ap (owner_at h) (sym (place_of g i t at)) ∙ o.at) in
         let same : mine.owner ≡ o.owner = cc in
         ne (sym o.session ∙ (ap (λ (z : Owner). z.session) (sym same) ∙ mine.session))) ∙ o.at;
@@ -159,9 +160,9 @@ module _ (h h2 : State) (xids : List Xid) (blocks : List (List ℕ)) (env2 : Env
       let b : Book = book_at h.books g in
       let books : h2.books ≡ set h.books g (left i b) = ap (λ (z : State). z.books) f.3 in
       let keeps : Keeps h h2 xids xids = kept_by (ap (λ (z : State). z.shape) f.3) (ap (λ (z : State). z.commits) f.3) in
-      let few : i < 16 = slot.0 in
-      let mine : Owns h s (16 * g + i) = owns_of h s g i slot in
-      let within : 16 * g + i < 16 * h.shape.segments = owner_within h xids (segments_of h.shape blocks) (homes_of h.shape blocks) (stood_of h xids blocks stand) (16 * g + i) mine.owner mine.at in
+      let few : i < SLOTS = slot.0 in
+      let mine : Owns h s (SLOTS * g + i) = owns_of h s g i slot in
+      let within : SLOTS * g + i < SLOTS * h.shape.segments = owner_within h xids (segments_of h.shape blocks) (homes_of h.shape blocks) (stood_of h xids blocks stand) (SLOTS * g + i) mine.owner mine.at in
       let there : g < h.shape.segments = omega (arith, within) in
       ended_remembered h h2 xids xids before env2 s cursors low many (ap (λ (z : State). z.sessions) f.3) keeps
       (freed h h2 xids blocks s g i (left i b) stand few there slot books (left_here i b (few_slots stand g there i few)) (left_else i b))

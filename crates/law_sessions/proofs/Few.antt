@@ -1,7 +1,8 @@
 -- A session's transaction has no more changes than its segment has records.
 use Rattle.std.proofs.Common.{◌≡◌, ◌<◌, ◌≤◌, ◌+◌, ◌*◌, ◌/◌, ◌%◌, ℕ, List, [], ◌∷◌, length, refl, ◌∙◌, ap, arith}
+use Rattle.rb_ring.specs.declared.extents.TheConstants.{EXTENTS, EXTENT_RECORDS}
 use Rattle.rb_base.specs.declared.ids.Xid.{Xid}
-use Rattle.rb_base.specs.declared.sizes.TheConstants.{ACTIVE}
+use Rattle.rb_base.specs.declared.sizes.TheConstants.{ACTIVE, SLOTS}
 use Rattle.rb_model.specs.Change as model
 use Rattle.rb_model.specs.State.{State, session_own}
 use Rattle.rb_segment.specs.Header.{Segment}
@@ -28,22 +29,22 @@ module _ (h : State) (xids : List Xid) (blocks : List (List ℕ)) (stand : Block
   logged = logged_of h.shape blocks
 
   -- the changes of a slot's owner are its live records
-  pub own_few : (s t : ℕ) → Owns h s t → length (session_own h s) ≤ 320
+  pub own_few : (s t : ℕ) → Owns h s t → length (session_own h s) ≤ (EXTENTS * EXTENT_RECORDS)
   own_few s t owns =
-      let lt : t < 16 * h.shape.segments = owner_within h xids segments (homes_of h.shape blocks) (stood_of h xids blocks stand) t owns.owner owns.at in
-      let g : t / 16 < h.shape.segments = omega (arith, lt) in
+      let lt : t < SLOTS * h.shape.segments = owner_within h xids segments (homes_of h.shape blocks) (stood_of h xids blocks stand) t owns.owner owns.at in
+      let g : t / SLOTS < h.shape.segments = omega (arith, lt) in
       let state : (slot_of segments t).state ≡ ACTIVE = active_of h segments stand.tell.books t lt owns.owner owns.at in
-      let keeps = keeps_of h.shape commit logged segments (homes_of h.shape blocks) (past_of h xids) (lives_of h (env_of h.shape blocks)) stand.standing.stands stand.tell.running (t / 16) g (t % 16) state in
-      let runs = running_of h.shape commit logged segments (homes_of h.shape blocks) (past_of h xids) (lives_of h (env_of h.shape blocks)) stand.standing.stands stand.tell.running (t / 16) g (t % 16) state in
-      let few = live_few commit logged (segments (t / 16)) (t % 16) (stand.standing.stands.in_order (t / 16) g) keeps runs in
+      let keeps = keeps_of h.shape commit logged segments (homes_of h.shape blocks) (past_of h xids) (lives_of h (env_of h.shape blocks)) stand.standing.stands stand.tell.running (t / SLOTS) g (t % SLOTS) state in
+      let runs = running_of h.shape commit logged segments (homes_of h.shape blocks) (past_of h xids) (lives_of h (env_of h.shape blocks)) stand.standing.stands stand.tell.running (t / SLOTS) g (t % SLOTS) state in
+      let few = live_few commit logged (segments (t / SLOTS)) (t % SLOTS) (stand.standing.stands.in_order (t / SLOTS) g) keeps runs in
       let count = ((stand.standing.stands.slots t lt).active state).count in
       let own_is : length (own (lives_of h (env_of h.shape blocks)) t) ≡ length (session_own h s) + 0 = ap (λ (l : List Change). length l) (lives_owned h (env_of h.shape blocks) s t lt owns) ∙ length_newest h.shape ((env_of h.shape blocks).xid t) 1 (session_own h s) [] in
       omega (arith, few, count, own_is)
 
   -- one of no slot has none
-  pub session_few : (s : ℕ) → 1 ≤ s → length (session_own h s) ≤ 320
+  pub session_few : (s : ℕ) → 1 ≤ s → length (session_own h s) ≤ (EXTENTS * EXTENT_RECORDS)
   session_few s low = by (session_own h s) refl
     where
-      by : (l : List model.Change) → session_own h s ≡ l → length (session_own h s) ≤ 320
+      by : (l : List model.Change) → session_own h s ≡ l → length (session_own h s) ≤ (EXTENTS * EXTENT_RECORDS)
       by [] is = let e = ap (λ (z : List model.Change). length z) is in omega (arith, e)
-      by (c ∷ more) is = let slot : (t : ℕ) × (t < 16 * h.shape.segments) × Owns h s t = stand.tell.has_slot s c more low is in own_few s slot.0 slot.2
+      by (c ∷ more) is = let slot : (t : ℕ) × (t < SLOTS * h.shape.segments) × Owns h s t = stand.tell.has_slot s c more low is in own_few s slot.0 slot.2

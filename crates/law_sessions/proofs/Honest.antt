@@ -2,6 +2,7 @@
 use Rattle.std.proofs.Common.{◌≡◌, inl, inr, ◌+◌, ◌*◌, ◌/◌, ◌%◌, ◌&&◌, nat_le, ℕ, true, List, Option, Some, None, refl, sym, ◌∙◌, ap, arith}
 use Rattle.std.proofs.Math.Nat.{div-add-mod}
 use Rattle.std.proofs.lemmas.Bool.{cases_Bool, cond-true, cond-false}
+use Rattle.rb_base.specs.declared.sizes.TheConstants.{SLOTS}
 use Rattle.rb_base.specs.declared.ids.Xid.{Xid}
 use Rattle.rb_base.specs.declared.shape.Shape.{Shape}
 use Rattle.rb_model.specs.Book.{turn_of}
@@ -36,13 +37,13 @@ honest_says shape segments = λ p gone.
     ]
 
 -- some slot is the reader's, whatever id he has
-reader_some : (shape : Shape) (segments : ℕ → Segment) (x : Xid) → Reader (says shape segments) (16 * x.seg + x.slot) (Some x)
+reader_some : (shape : Shape) (segments : ℕ → Segment) (x : Xid) → Reader (says shape segments) (SLOTS * x.seg + x.slot) (Some x)
 reader_some shape segments x = λ t active mine.
     let is : Some x ≡ Some ((says shape segments).xid t) = sym mine in
     let same : x ≡ (says shape segments).xid t = cc in
-    let a : x.seg ≡ t / 16 = ap (λ (y : Xid). y.seg) same in
-    let b : x.slot ≡ t % 16 = ap (λ (y : Xid). y.slot) same in
-    let c = div-add-mod t 16 in
+    let a : x.seg ≡ t / SLOTS = ap (λ (y : Xid). y.seg) same in
+    let b : x.slot ≡ t % SLOTS = ap (λ (y : Xid). y.slot) same in
+    let c = div-add-mod t SLOTS in
     omega (arith, a, b, c)
 
 pub reader_is : (shape : Shape) (segments : ℕ → Segment) (mine : Option Xid) → Reader (says shape segments) (reader_slot mine) mine

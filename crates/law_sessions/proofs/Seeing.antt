@@ -5,7 +5,7 @@ use Rattle.std.proofs.lemmas.Bool.Decides.{nat_tests}
 use Rattle.std.specs.List.{flat_map}
 use Rattle.rb_base.specs.Blocks.{home_block}
 use Rattle.rb_base.specs.declared.ids.Xid.{Xid}
-use Rattle.rb_base.specs.declared.sizes.TheConstants.{ACTIVE}
+use Rattle.rb_base.specs.declared.sizes.TheConstants.{ACTIVE, SLOTS}
 use Rattle.rb_model.specs.Book.{Owner}
 use Rattle.rb_model.specs.Change as model
 use Rattle.rb_model.specs.Rows.{TableRow, over, value_of}
@@ -58,7 +58,7 @@ module _ (h : State) (xids : List Xid) (blocks : List (List ℕ)) (stand : Block
   stood : Stood h xids (segments_of h.shape blocks) (homes_of h.shape blocks)
   stood = stood_of h xids blocks stand
 
-  within : (t : ℕ) (o : Owner) → owner_at h t ≡ Some o → t < 16 * h.shape.segments
+  within : (t : ℕ) (o : Owner) → owner_at h t ≡ Some o → t < SLOTS * h.shape.segments
   within = owner_within h xids (segments_of h.shape blocks) (homes_of h.shape blocks) stood
 
   pub owned_active : (t : ℕ) (o : Owner) → owner_at h t ≡ Some o → (slot_of segments t).state ≡ ACTIVE

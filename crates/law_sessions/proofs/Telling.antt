@@ -4,7 +4,7 @@ use Rattle.std.proofs.lemmas.Bool.{cases_lt, eqb-true}
 use Rattle.std.proofs.lemmas.Bool.Decides.{nat_tests}
 use Rattle.rb_base.specs.declared.ids.Xid.{Xid}
 use Rattle.rb_base.specs.declared.shape.Shape.{Shape}
-use Rattle.rb_base.specs.declared.sizes.TheConstants.{ACTIVE}
+use Rattle.rb_base.specs.declared.sizes.TheConstants.{ACTIVE, SLOTS}
 use Rattle.rb_model.specs.Book.{Owner}
 use Rattle.rb_model.specs.Change as model
 use Rattle.rb_model.specs.State as machine
@@ -110,7 +110,7 @@ module _ (h : State) (xids : List Xid) (blocks : List (List ℕ)) (stand : Block
 
   -- the live changes of a slot
   lives_numbered : (b r : ℕ) → Each FromOne (own (map (here b) (lives_of h env)) r)
-  lives_numbered b r = subst (Each FromOne) (sym (own_here b (lives_of h env) r)) (each_here FromOne b (own (lives_of h env) r) (elim (cases_lt r (16 * h.shape.segments)) [
+  lives_numbered b r = subst (Each FromOne) (sym (own_here b (lives_of h env) r)) (each_here FromOne b (own (lives_of h env) r) (elim (cases_lt r (SLOTS * h.shape.segments)) [
     | inl lt ↦ subst (Each FromOne) (sym (lives_at h env r lt)) (by_owner (owner_at h r))
     | inr le ↦ subst (Each FromOne) (sym (own_beyond h env r le)) (each_none FromOne)
   ]))
@@ -128,7 +128,7 @@ module _ (h : State) (xids : List Xid) (blocks : List (List ℕ)) (stand : Block
       let x : Xid = get_or xids i no_xid in
       let made : IsMade h.shape segments x = stand.tell.ids_made i lt in
       let at : slot_look (slot_of segments made.slot) x.wrap ≡ Active =
-      ap (λ (g : ℕ). slot_look (slot_in (segments g).header (made.slot % 16)) x.wrap) (sym made.at.0)
+      ap (λ (g : ℕ). slot_look (slot_in (segments g).header (made.slot % SLOTS)) x.wrap) (sym made.at.0)
       ∙ (ap (λ (j : ℕ). slot_look (slot_in (segments x.seg).header j) x.wrap) (sym made.at.1) ∙ look) in
       let on = goes_on (slot_of segments made.slot) x.wrap made.wrap at in
       stand.tell.ids_over i made.slot lt made.within on.1 (one_xid x (xid_by segments made.slot) made.at.0 made.at.1 (sym on.0))

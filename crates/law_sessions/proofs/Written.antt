@@ -1,6 +1,8 @@
 -- The table remembers a write.
 use Rattle.std.proofs.Common.{◌≡◌, ◌≢◌, inl, inr, ◌≤◌, ◌+◌, ◌-◌, ◌*◌, ◌%◌, ◌^◌, ℕ, Bool, true, false, if◌then◌else◌, List, [], ◌∷◌, ◌++◌, length, min, take, Some, None, refl, sym, ◌∙◌, ap, subst, arith, append-nil, length-append}
 use Rattle.std.proofs.lemmas.List.{length-set, take-append-le}
+use Rattle.rb_base.specs.declared.sizes.TheConstants.{SLOTS}
+use Rattle.rb_ring.specs.declared.extents.TheConstants.{EXTENTS, EXTENT_RECORDS}
 use Rattle.rb_base.specs.declared.ids.Xid.{Xid}
 use Rattle.law_crash.specs.Made.{KeepsIds}
 use Rattle.law_crash.proofs.Owners.{owns_of}
@@ -52,22 +54,22 @@ module _ (h : State) (xids : List Xid) (blocks now : List (List ℕ)) (s g i : �
     where
       by : WritesIn h s g i → o.session ≡ s
       by (inl owned) =
-          let mine : Owns h s (16 * g + i) = owns_of h s g i owned in
+          let mine : Owns h s (SLOTS * g + i) = owns_of h s g i owned in
           let both : Some mine.owner ≡ Some o = sym mine.at ∙ (ap (owner_at h) (sym (place_of g i t at)) ∙ is) in
           let same : mine.owner ≡ o = cc in
           ap (λ (z : Owner). z.session) (sym same) ∙ mine.session
       by (inr begins) =
-          let read : owner_at h t ≡ slot_owner (book_at h.books g) i = ap (λ (z : ℕ). slot_owner (book_at h.books z) (t % 16)) at.0 ∙ ap (λ (z : ℕ). slot_owner (book_at h.books g) z) at.1 in
+          let read : owner_at h t ≡ slot_owner (book_at h.books g) i = ap (λ (z : ℕ). slot_owner (book_at h.books z) (t % SLOTS)) at.0 ∙ ap (λ (z : ℕ). slot_owner (book_at h.books g) z) at.1 in
           let begun : IsBegun h.books g i = begins.1 in
           let clash : None ≡ Some o = sym begun.slot.free ∙ (sym read ∙ is) in
           absurd cc
 
   -- a slot that the session has is that one
-  own_there : (t : ℕ) → Owns h s t → t ≡ 16 * g + i
+  own_there : (t : ℕ) → Owns h s t → t ≡ SLOTS * g + i
   own_there t o = by writes
     where
-      by : WritesIn h s g i → t ≡ 16 * g + i
-      by (inl owned) = stand.tell.one_slot s t (16 * g + i) o (owns_of h s g i owned)
+      by : WritesIn h s g i → t ≡ SLOTS * g + i
+      by (inl owned) = stand.tell.one_slot s t (SLOTS * g + i) o (owns_of h s g i owned)
       by (inr begins) = absurd (begins.0 t o.owner o.at o.session)
 
   -- so is the slot that it has then
@@ -129,7 +131,7 @@ module _ (h : State) (xids : List Xid) (blocks now : List (List ℕ)) (s g i : �
         (cursors_last h h2 xids xids env env2 s (λ m cursor. cursor_stays h h2 xids xids env env2 s keeps m cursor (λ present. stays m.cursor.upto)) k.cursors (session_of h s).cursors is.cursors);
   }
     where
-      counted : (count n : ℕ) → count + 1 ≡ n → n ≤ 320 → min (count + 1) (2 ^ 32 - 1) ≡ n
+      counted : (count n : ℕ) → count + 1 ≡ n → n ≤ (EXTENTS * EXTENT_RECORDS) → min (count + 1) (2 ^ 32 - 1) ≡ n
       counted count n is few = omega (arith, is, few)
 
       stays : (upto : ℕ) → Stays h h2 env env2 s upto

@@ -3,6 +3,7 @@ use Rattle.std.proofs.Common.{◌≡◌, ◌<◌, ◌==◌, cond, ℕ, suc, List
 use Rattle.std.proofs.lemmas.Bool.{cond-true, cond-false, eq-eqb, ne_eqb}
 use Rattle.std.proofs.lemmas.List.Sums.{sum_by-cons}
 use Rattle.std.specs.List.{count_by, range_with_len, sum_by}
+use Rattle.rb_base.specs.declared.sizes.TheConstants.{SLOTS}
 use Rattle.rb_base.specs.Blocks.{block_of, header_block}
 use Rattle.rb_base.specs.declared.shape.Shape.{Shape}
 use Rattle.rb_model.specs.Book.{Owner, Book, BookSlot, free_slot, owners, slot_owner}
@@ -29,14 +30,14 @@ active slot = cond (slot.state == 1) 1 0
 abbrev owned : BookSlot → ℕ
 owned slot = cond (is_some slot.owner) 1 0
 
-module _ (h : Header) (b : Book) (book : IsBook h b) (sixteen : length h.slots ≡ 16) where
+module _ (h : Header) (b : Book) (book : IsBook h b) (sixteen : length h.slots ≡ SLOTS) where
   same_counts : length h.slots ≡ length b.slots
   same_counts = sixteen ∙ sym book.slots
 
   pub free_alike : map free_number h.slots ≡ map book_number b.slots
   free_alike = map_same free_number book_number h.slots b.slots no_slot free_slot same_counts (λ i lt. one i (omega (arith, sixteen, lt)))
     where
-      one : (i : ℕ) → i < 16 → free_number (slot_in h i) ≡ book_number (get_or b.slots i free_slot)
+      one : (i : ℕ) → i < SLOTS → free_number (slot_in h i) ≡ book_number (get_or b.slots i free_slot)
       one i lt = by (slot_owner b i) (book.owners i lt)
         where
           by : (o : Option Owner) → IsOwned h (slot_in h i) o → free_number (slot_in h i) ≡ cond (is_some o) None (Some (get_or b.slots i free_slot).newest)
@@ -47,7 +48,7 @@ module _ (h : Header) (b : Book) (book : IsBook h b) (sixteen : length h.slots �
   marks_alike : map active h.slots ≡ map owned b.slots
   marks_alike = map_same active owned h.slots b.slots no_slot free_slot same_counts (λ i lt. one i (omega (arith, sixteen, lt)))
     where
-      one : (i : ℕ) → i < 16 → active (slot_in h i) ≡ owned (get_or b.slots i free_slot)
+      one : (i : ℕ) → i < SLOTS → active (slot_in h i) ≡ owned (get_or b.slots i free_slot)
       one i lt = by (slot_owner b i) (book.owners i lt)
         where
           by : (o : Option Owner) → IsOwned h (slot_in h i) o → active (slot_in h i) ≡ cond (is_some o) 1 0
@@ -62,4 +63,4 @@ module _ (h : Header) (b : Book) (book : IsBook h b) (sixteen : length h.slots �
 -- counted in the bytes of a header
 pub active_is : (shape : Shape) (blocks : List (List ℕ)) (g : ℕ) → active_count (block_of blocks (header_block shape g)) ≡ count_by (λ (slot : TableSlot). slot.state == 1) (segment_of shape blocks g).header.slots
 unfolding segment_of header_of
-active_is shape blocks g = sum_map active (slot_at (block_of blocks (header_block shape g))) (range_with_len 0 16)
+active_is shape blocks g = sum_map active (slot_at (block_of blocks (header_block shape g))) (range_with_len 0 SLOTS)

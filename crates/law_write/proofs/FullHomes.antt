@@ -6,6 +6,7 @@ use Rattle.std.proofs.lemmas.Bool.Decides.{nat_tests}
 use Rattle.std.proofs.lemmas.List.Folds.{list_any-append}
 use Rattle.std.proofs.lemmas.List.FromFn.{length-range_with_len}
 use Rattle.std.specs.List.{list_any, flat_map, range_with_len}
+use Rattle.rb_cell.specs.declared.cell.TheConstants.{CELLS}
 use Rattle.rb_base.specs.Blocks.{home_block}
 use Rattle.rb_base.specs.declared.ids.Xid.{Xid}
 use Rattle.rb_model.specs.Full.{has_key, held, used_keys, full_block}
@@ -32,7 +33,7 @@ use Rattle.law_home.proofs.Holding.{held_cell}
 
 -- each cell keeps a key for itself, which isn't that one
 abbrev pub AllTaken : Home → ℕ → Type 0
-AllTaken b key = (j : ℕ) → j < 16 → (q : ℕ) × (taken (cell_at b j) ≡ Some q) × (q ≢ key)
+AllTaken b key = (j : ℕ) → j < CELLS → (q : ℕ) × (taken (cell_at b j) ≡ Some q) × (q ≢ key)
 
 or_left : (a b : Bool) → a ≡ true → (a || b) ≡ true
 or_left a b e = ap (λ z. z || b) e
@@ -146,10 +147,10 @@ module _ (h : State) (xids : List Xid) (segments : ℕ → Segment) (homes : ℕ
     abbrev Keeps : ℕ → ℕ → Type 0
     Keeps j q = taken (cell_at there j) ≡ Some q
 
-    cell_within : (q j : ℕ) → Keeps j q → j < 16
+    cell_within : (q j : ℕ) → Keeps j q → j < CELLS
     cell_within q j has = ⊎_elim (λ lt. lt)
         (λ le. let out : cell_at there j ≡ Empty = lists.get_or-eq_default there.cells Empty (let z = (stood.sizes which).1 in omega (arith, z, le)) in let none : None ≡ Some q = sym (ap taken out) ∙ has in absurd cc)
-        (cases_lt j 16)
+        (cases_lt j CELLS)
 
     one_key : (j q r : ℕ) → Keeps j q → Keeps j r → q ≡ r
     one_key j q r a c = let same : Some q ≡ Some r = sym a ∙ c in cc
@@ -158,9 +159,9 @@ module _ (h : State) (xids : List Xid) (segments : ℕ → Segment) (homes : ℕ
     pub full_block_when : AllTaken there key → full_block h table key ≡ true
     full_block_when all =
         let keys : List ℕ = used_keys h table key in
-        let le = no_more Keeps (λ i j q a c. whole.unique i j q a c) keys (range_with_len 0 16) (distinct_range 0 16)
-        (λ j has. let c : (q : ℕ) × (taken (cell_at there j) ≡ Some q) × (q ≢ key) = all j (let r = range_has 0 16 j has in r.1) in (c.0, cell_key c.0 j c.1, c.1)) in
-        let l = length-range_with_len 0 16 in
+        let le = no_more Keeps (λ i j q a c. whole.unique i j q a c) keys (range_with_len 0 CELLS) (distinct_range 0 CELLS)
+        (λ j has. let c : (q : ℕ) × (taken (cell_at there j) ≡ Some q) × (q ≢ key) = all j (let r = range_has 0 CELLS j has in r.1) in (c.0, cell_key c.0 j c.1, c.1)) in
+        let l = length-range_with_len 0 CELLS in
         let unused : has_key key keys ≡ false = elim (cases_Bool (has_key key keys)) [
           | inl used ↦
               let c : (j : ℕ) × (taken (cell_at there j) ≡ Some key) = key_cell key used in
@@ -168,25 +169,25 @@ module _ (h : State) (xids : List Xid) (segments : ℕ → Segment) (homes : ℕ
               absurd (d.2 (one_key c.0 d.0 key d.1 c.1))
           | inr free ↦ free
         ] in
-        and_from (not (has_key key keys)) (nat_le 16 (length keys)) (ap not unused) (le-leb 16 (length keys) (omega (arith, le, l)))
+        and_from (not (has_key key keys)) (nat_le CELLS (length keys)) (ap not unused) (le-leb CELLS (length keys) (omega (arith, le, l)))
 
     -- And where the block is full, sixteen cells are taken, none by the key.
     pub full_block_then : full_block h table key ≡ true → AllTaken there key
     full_block_then full j few =
         let keys : List ℕ = used_keys h table key in
-        let parts = and_parts (not (has_key key keys)) (nat_le 16 (length keys)) full in
-        let many : 16 ≤ length keys = leb-true 16 (length keys) parts.1 in
-        let st : Sent (λ q i. Keeps i q) keys (range_with_len 0 16) = sent (λ q i. Keeps i q) (λ q r i a c. one_key i q r a c) (range_with_len 0 16) keys (distinct_used h table key)
-        (λ q has. let c : (i : ℕ) × (taken (cell_at there i) ≡ Some q) = key_cell q has in (c.0, has_range 0 16 c.0 (omega arith) (let w = cell_within q c.0 c.1 in omega (arith, w)), c.1)) in
+        let parts = and_parts (not (has_key key keys)) (nat_le CELLS (length keys)) full in
+        let many : CELLS ≤ length keys = leb-true CELLS (length keys) parts.1 in
+        let st : Sent (λ q i. Keeps i q) keys (range_with_len 0 CELLS) = sent (λ q i. Keeps i q) (λ q r i a c. one_key i q r a c) (range_with_len 0 CELLS) keys (distinct_used h table key)
+        (λ q has. let c : (i : ℕ) × (taken (cell_at there i) ≡ Some q) = key_cell q has in (c.0, has_range 0 CELLS c.0 (omega arith) (let w = cell_within q c.0 c.1 in omega (arith, w)), c.1)) in
         elim (cases_Bool (has_key j st.images)) [
           | inl here ↦
               let f : (q : ℕ) × (has_key q keys ≡ true) × (taken (cell_at there j) ≡ Some q) = st.from j here in
               (f.0, f.2, λ same. false≢true (sym (ap not (ap (λ z. has_key z keys) (sym same) ∙ f.1)) ∙ parts.0))
           | inr missing ↦
               let distinct = distinct_cons j st.images (λ q has same. false≢true (sym missing ∙ (ap (λ z. has_key z st.images) (sym same) ∙ has))) st.distinct in
-              let le = distinct_within (j ∷ st.images) (range_with_len 0 16) distinct (λ q has. elim (cases_eq q j) [ inl same ↦ has_range 0 16 q (omega arith) (omega (arith, same, few)) | inr ne ↦ st.inside q (later q ne st.images has) ]) in
+              let le = distinct_within (j ∷ st.images) (range_with_len 0 CELLS) distinct (λ q has. elim (cases_eq q j) [ inl same ↦ has_range 0 CELLS q (omega arith) (omega (arith, same, few)) | inr ne ↦ st.inside q (later q ne st.images has) ]) in
               let m = st.many in
-              let l = length-range_with_len 0 16 in
+              let l = length-range_with_len 0 CELLS in
               absurd (omega (arith, le, m, l, many))
         ]
       where

@@ -4,6 +4,7 @@ use Rattle.std.proofs.Math.ListN as lists
 use Rattle.std.proofs.lemmas.Bool.{cases_eq, cases_Bool, and_parts, and_from, cond-true, cond-false, eq-eqb, eqb-true, false≢true, ne_eqb}
 use Rattle.std.proofs.lemmas.Bool.Decides.{nat_tests}
 use Rattle.std.specs.List.{list_any, flat_map, AllByRecursion}
+use Rattle.rb_base.specs.declared.sizes.TheConstants.{SLOTS}
 use Rattle.rb_base.specs.Blocks.{home_block}
 use Rattle.rb_base.specs.declared.ids.Xid.{Xid}
 use Rattle.rb_base.specs.declared.shape.Shape.{Shape}
@@ -25,7 +26,7 @@ use Rattle.law_home.proofs.Homes.{live_here, live_elsewhere}
 
 -- live changes of one home
 
-pub own_beyond : (h : State) (env : Env) (t : ℕ) → 16 * h.shape.segments ≤ t → own (lives_of h env) t ≡ []
+pub own_beyond : (h : State) (env : Env) (t : ℕ) → SLOTS * h.shape.segments ≤ t → own (lives_of h env) t ≡ []
 own_beyond h env t le = lists.get_or-eq_default (lives_of h env) [] (let n = lives_counted h env in omega (arith, n, le))
 
 -- the model's change names that key of that home

@@ -5,6 +5,7 @@ use Rattle.std.proofs.Math.Nat.{div-add-mod, mod-lt}
 use Rattle.std.proofs.lemmas.Bool.{cases_eq, cases_lt, cases_Bool, and_from, eq-eqb, false≢true, ne_eqb}
 use Rattle.std.proofs.lemmas.List.{get_or-replicate, take_all}
 use Rattle.std.specs.List.{list_any, flat_map, range_with_len}
+use Rattle.rb_base.specs.declared.sizes.TheConstants.{SLOTS}
 use Rattle.rb_base.specs.Blocks.{home_block}
 use Rattle.rb_base.specs.declared.ids.Xid.{Xid}
 use Rattle.rb_base.specs.declared.shape.Shape.{Shape}
@@ -58,20 +59,20 @@ module _ (h : State) (xids : List Xid) (segments : ℕ → Segment) (homes : ℕ
   pub some_blocks : 1 ≤ h.shape.blocks
   some_blocks = stood.in_range.few_blocks.0
 
-  pub owner_within : (t : ℕ) (o : Owner) → owner_at h t ≡ Some o → t < 16 * h.shape.segments
-  owner_within t o is = ⊎_elim (λ lt. lt) (λ le. absurd (beyond le)) (cases_lt t (16 * h.shape.segments))
+  pub owner_within : (t : ℕ) (o : Owner) → owner_at h t ≡ Some o → t < SLOTS * h.shape.segments
+  owner_within t o is = ⊎_elim (λ lt. lt) (λ le. absurd (beyond le)) (cases_lt t (SLOTS * h.shape.segments))
     where
-      beyond : 16 * h.shape.segments ≤ t → ⊥
+      beyond : SLOTS * h.shape.segments ≤ t → ⊥
       beyond le =
-          let a = div-add-mod t 16 in
+          let a = div-add-mod t SLOTS in
           let m = mod-lt t (sixteen) in
-          let out : length h.books ≤ t / 16 = let c = stood.books_counted in omega (arith, a, m, le, c) in
-          let none : book_at h.books (t / 16) ≡ fresh_book = lists.get_or-eq_default h.books fresh_book out in
-          let no_owner : owner_at h t ≡ None = ap (λ (b : Book). (get_or b.slots (t % 16) free_slot).owner) none ∙ ap (λ (s : BookSlot). s.owner) (get_or-replicate 16 (t % 16) free_slot free_slot m) in
+          let out : length h.books ≤ t / SLOTS = let c = stood.books_counted in omega (arith, a, m, le, c) in
+          let none : book_at h.books (t / SLOTS) ≡ fresh_book = lists.get_or-eq_default h.books fresh_book out in
+          let no_owner : owner_at h t ≡ None = ap (λ (b : Book). (get_or b.slots (t % SLOTS) free_slot).owner) none ∙ ap (λ (s : BookSlot). s.owner) (get_or-replicate SLOTS (t % SLOTS) free_slot free_slot m) in
           let never : None ≡ Some o = sym no_owner ∙ is in
           cc
         where
-          sixteen : 0 < 16
+          sixteen : 0 < SLOTS
           sixteen = omega arith
 
   module _ (table k : ℕ) (first : 1 ≤ table) (last : table ≤ h.shape.tables) where
@@ -118,7 +119,7 @@ module _ (h : State) (xids : List Xid) (segments : ℕ → Segment) (homes : ℕ
     local_none t is = own_here which lives t ∙ ⊎_elim
         (λ lt. ap (here which) (lives_at h env t lt ∙ ap (owned h (env.xid t)) is))
         (λ le. ap (here which) (own_beyond h env t le))
-        (cases_lt t (16 * h.shape.segments))
+        (cases_lt t (SLOTS * h.shape.segments))
 
     -- the owner of a slot whose changes name the key holds it
     pub named_slot : (t : ℕ) → Names (own local t) k → (o : Owner) × (owner_at h t ≡ Some o) × (holds h o.session table k ≡ true)
@@ -134,7 +135,7 @@ module _ (h : State) (xids : List Xid) (segments : ℕ → Segment) (homes : ℕ
     pub held_slot : (s : ℕ) → 1 ≤ s → holds h s table k ≡ true → (t : ℕ) × Owns h s t × Names (own local t) k
     held_slot s low held =
         let f : (c : model.Change) × (more : List model.Change) × (session_own h s ≡ c ∷ more) = some_any (is_change table k) (session_own h s) held in
-        let slot : (t : ℕ) × (t < 16 * h.shape.segments) × Owns h s t = stood.has_slot s f.0 f.1 low f.2 in
+        let slot : (t : ℕ) × (t < SLOTS * h.shape.segments) × Owns h s t = stood.has_slot s f.0 f.1 low f.2 in
         let owns : Owns h s slot.0 = slot.2 in
         let any : list_any (names_in h.shape which k) (session_own h owns.owner.session) ≡ true = ap (λ z. list_any (names_in h.shape which k) (session_own h z)) owns.session ∙ (held_any s ∙ held) in
         (slot.0, owns, subst (λ (l : List Change). Names l k) (sym (local_of slot.0 owns.owner owns.at)) (names_back h.shape which k (env.xid slot.0) 1 (session_own h owns.owner.session) [] any))
@@ -153,7 +154,7 @@ module _ (h : State) (xids : List Xid) (segments : ℕ → Segment) (homes : ℕ
     pub present : (s : ℕ) → 1 ≤ s → ((u : ℕ) → 1 ≤ u → u ≢ s → holds h u table k ≡ false) → KeyMatch b k (value_of table k (rows_now h s))
     present s low others = elim (cases_own (session_own h s) refl) [
       | inl none ↦
-          let t : ℕ = 16 * h.shape.segments in
+          let t : ℕ = SLOTS * h.shape.segments in
           let alone : Alone local t k = λ u ne named. let f : (o : Owner) × (owner_at h u ≡ Some o) × (holds h o.session table k ≡ true) = named_slot u named in
           elim (cases_eq f.0.session s) [
             | inl is ↦ let held : holds h s table k ≡ true = ap (λ z. holds h z table k) (sym is) ∙ f.2 in false≢true (sym (ap (list_any (is_change table k)) none) ∙ held)
@@ -165,7 +166,7 @@ module _ (h : State) (xids : List Xid) (segments : ℕ → Segment) (homes : ℕ
           ∙ base_rows ∙ ap (λ cs. value_of table k (over h.shape.blocks (rows_at h.shape.blocks h.commits (last_scn h.commits)) cs)) (sym none) in
           subst (λ x. KeyMatch b k x) sees (shown_alone t alone)
       | inr some ↦
-          let slot : (t : ℕ) × (t < 16 * h.shape.segments) × Owns h s t = stood.has_slot s some.0 some.1 low some.2 in
+          let slot : (t : ℕ) × (t < SLOTS * h.shape.segments) × Owns h s t = stood.has_slot s some.0 some.1 low some.2 in
           let owns : Owns h s slot.0 = slot.2 in
           let alone : Alone local slot.0 k = λ u ne named. let f : (o : Owner) × (owner_at h u ≡ Some o) × (holds h o.session table k ≡ true) = named_slot u named in
           elim (cases_eq f.0.session s) [
@@ -257,7 +258,7 @@ module _ (h : State) (xids : List Xid) (segments : ℕ → Segment) (homes : ℕ
     -- The cells show of a key that nobody holds what the commits say.
     pub present_base : ((u : ℕ) → 1 ≤ u → holds h u table k ≡ false) → KeyMatch b k (value_of table k (rows_at h.shape.blocks h.commits (last_scn h.commits)))
     present_base nobody =
-        let t : ℕ = 16 * h.shape.segments in
+        let t : ℕ = SLOTS * h.shape.segments in
         let alone : Alone local t k = λ u ne named. let f : (o : Owner) × (owner_at h u ≡ Some o) × (holds h o.session table k ≡ true) = named_slot u named in false≢true (sym (nobody f.0.session (stood.owners u f.0 f.1).0) ∙ f.2) in
         let empty : own local t ≡ [] = own_here which lives t ∙ ap (here which) (own_beyond h env t (omega arith)) in
         let sees : behind (own local t) (rows_of (rows_here h.shape which h.commits.rows) (map (narrow which) (past_of h xids).list)) k ≡ value_of table k (rows_at h.shape.blocks h.commits (last_scn h.commits)) =

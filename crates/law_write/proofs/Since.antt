@@ -1,7 +1,8 @@
 -- How many records a segment has made since the first of its owners began: by its header as by its book.
-use Rattle.std.proofs.Common.{◌≡◌, ◌≢◌, ◌⊎◌, inl, inr, ◌<◌, ◌≤◌, ◌-◌, ℕ, zero, suc, true, List, [], ◌∷◌, get_or, Option, Some, None, refl, sym, ◌∙◌, ap, subst, arith}
+use Rattle.std.proofs.Common.{◌*◌, ◌≡◌, ◌≢◌, ◌⊎◌, inl, inr, ◌<◌, ◌≤◌, ◌-◌, ℕ, zero, suc, true, List, [], ◌∷◌, get_or, Option, Some, None, refl, sym, ◌∙◌, ap, subst, arith}
 use Rattle.std.proofs.lemmas.Bool.{cases_eq, cases_lt}
 use Rattle.std.proofs.lemmas.List.{get_or-set_same}
+use Rattle.rb_ring.specs.declared.extents.TheConstants.{EXTENTS, EXTENT_RECORDS}
 use Rattle.rb_base.specs.declared.ids.Xid.{Xid}
 use Rattle.rb_model.specs.Book.{Owner, Book, BookSlot, free_slot, is_full, slot_owner}
 use Rattle.rb_model.specs.State.{State}
@@ -118,7 +119,7 @@ module _ (h : State) (xids : List Xid) (blocks : List (List ℕ)) (stand : Block
               omega (arith, l, start, other.start)
 
   -- is 281 to 320 where the book is full
-  pub since_range : is_full Bk ≡ true → (281 ≤ made_since Bk) × (made_since Bk ≤ 320)
+  pub since_range : is_full Bk ≡ true → (281 ≤ made_since Bk) × (made_since Bk ≤ (EXTENTS * EXTENT_RECORDS))
   since_range full =
       let f = full_since Bk (told.sound h xids blocks stand g g_in) full in
       let low = least_owner Bk.slots Bk.writes f.0.0 f.0.1 f.0.2 in

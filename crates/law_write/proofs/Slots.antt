@@ -3,6 +3,8 @@ use Rattle.std.proofs.Common.{◌≡◌, ◌≢◌, inl, inr, ⊎_elim, ◌<◌,
 use Rattle.std.proofs.lemmas.Bool.{cases_eq, cases_Bool, and_parts, and_from, eq-eqb, eqb-true, false≢true, le-leb, leb-true, ne_eqb}
 use Rattle.std.proofs.lemmas.List.FromFn.{length-range_with_len}
 use Rattle.std.specs.List.{list_any, range_with_len, AllByRecursion, IsDistinct}
+use Rattle.rb_base.specs.declared.sizes.TheConstants.{SLOTS}
+use Rattle.rb_itl.specs.declared.slots.TheConstants.{ENTRIES}
 use Rattle.rb_base.specs.Blocks.{home_block}
 use Rattle.rb_base.specs.declared.ids.Xid.{Xid}
 use Rattle.rb_model.specs.Book.{Owner}
@@ -67,7 +69,7 @@ module _ (h : State) (xids : List Xid) (segments : ℕ → Segment) (homes : ℕ
   works_slot : (u : ℕ) → 1 ≤ u → list_any (is_in_home h.shape table k) (session_own h u) ≡ true → (t : ℕ) × Owns h u t × ((ch : Change) × (more : List Change) × (own local t ≡ ch ∷ more))
   works_slot u low any =
       let f : (c : model.Change) × (more : List model.Change) × (session_own h u ≡ c ∷ more) = presence.some_any (is_in_home h.shape table k) (session_own h u) any in
-      let slot : (t : ℕ) × (t < 16 * h.shape.segments) × Owns h u t = stood.has_slot u f.0 f.1 low f.2 in
+      let slot : (t : ℕ) × (t < SLOTS * h.shape.segments) × Owns h u t = stood.has_slot u f.0 f.1 low f.2 in
       let owns : Owns h u slot.0 = slot.2 in
       let p : Passing (λ c. (1 ≤ c.table) × (c.table ≤ h.shape.tables)) (λ c. is_in_home h.shape table k c ≡ true) (session_own h u) = passing (λ c. (1 ≤ c.table) × (c.table ≤ h.shape.tables)) (is_in_home h.shape table k) (session_own h u) (stood.tables u) any in
       let parts = and_parts (p.item.table == table) ((p.item.key % h.shape.blocks) == (k % h.shape.blocks)) p.passes in
@@ -147,7 +149,7 @@ module _ (h : State) (xids : List Xid) (segments : ℕ → Segment) (homes : ℕ
   -- Where eight other sessions have changes in the home, each entry is of another session.
   pub full_slots_then : full_slots h s table k ≡ true → (i : ℕ) → i < 8 → IsOfOther i
   full_slots_then full i few =
-      let many : 8 ≤ length workers = leb-true 8 (length workers) full in
+      let many : ENTRIES ≤ length workers = leb-true ENTRIES (length workers) full in
       let st : Sent Has workers (range_with_len 0 8) = sent Has one_session (range_with_len 0 8) workers distinct_workers worker_has in
       elim (cases_Bool (has_key i st.images)) [
         | inl there ↦
@@ -173,4 +175,4 @@ module _ (h : State) (xids : List Xid) (segments : ℕ → Segment) (homes : ℕ
   full_slots_when all =
       let le = no_more (λ i u. Has u i) one_entry workers (range_with_len 0 8) (distinct_range 0 8) (λ i has. entry_has i (all i (let r = range_has 0 8 i has in r.1))) in
       let l = length-range_with_len 0 8 in
-      le-leb 8 (length workers) (omega (arith, le, l))
+      le-leb ENTRIES (length workers) (omega (arith, le, l))

@@ -8,7 +8,7 @@ use Rattle.rb_base.specs.Blocks.{block_of, table_blocks}
 use Rattle.rb_base.specs.declared.ids.Xid.{Xid}
 use Rattle.rb_cell.specs.Cells as cells_of
 use Rattle.rb_cell.specs.declared.cell.Cell as cells
-use Rattle.rb_cell.specs.declared.cell.TheConstants.{EMPTY, ROW}
+use Rattle.rb_cell.specs.declared.cell.TheConstants.{CELLS, EMPTY, ROW}
 use Rattle.rb_heap.specs.Cleaning.{cleaned_home}
 use Rattle.rb_heap.specs.Homes.{home_of, empty_cell, is_keyed}
 use Rattle.rb_heap.specs.Soundness.{IsCellSound}
@@ -50,7 +50,7 @@ module _ (h : State) (xids : List Xid) (blocks : List (List ℕ)) (stand : Block
 
     -- a cell's key is of its home
     key_of : (j k : ℕ) → taken (cell_at (homes_of h.shape blocks b) j) ≡ Some k → k % h.shape.blocks ≡ b % h.shape.blocks
-    key_of j k has = elim (cases_lt j 16) [
+    key_of j k has = elim (cases_lt j CELLS) [
       | inl few ↦
           let x : cells.Cell = cells_of.cell_at Block j in
           let is : is_keyed k x ≡ true = taken_keyed k x (sym (ap taken (cell_here h.shape Block j few)) ∙ has) in
@@ -65,7 +65,7 @@ module _ (h : State) (xids : List Xid) (blocks : List (List ℕ)) (stand : Block
     ]
 
     -- a lock names an Open entry, and an empty cell has none
-    locked : (c : ℕ) → c < 16 → IsLockedOpen (home_of Block) (cells_of.cell_at Block c)
+    locked : (c : ℕ) → c < CELLS → IsLockedOpen (home_of Block) (cells_of.cell_at Block c)
     locked c few = record {
       unlocked = ((stand.standing.homes_sound b b_in).cells.each c few).unlocked;
       opens = λ i is.
@@ -76,7 +76,7 @@ module _ (h : State) (xids : List Xid) (blocks : List (List ℕ)) (stand : Block
     -- The home, cleaned, in both words.
     pub home_is : walk_home h.shape b (cleaned_home (env_of h.shape blocks).look (home_of Block)) ≡ cleaned (env_of h.shape blocks) (homes_of h.shape blocks b)
     home_is = home_cleaned h.shape (env_of h.shape blocks) b (home_of Block) (all_of (IsLockedOpen (home_of Block)) (home_of Block).cells empty_cell (λ c lt.
-        let few : c < 16 = let n = cells_counted Block in omega (arith, n, lt) in
+        let few : c < CELLS = let n = cells_counted Block in omega (arith, n, lt) in
         subst (IsLockedOpen (home_of Block)) (sym (cell_read Block c empty_cell few)) (locked c few)))
 
   pub stood_of : Stood h xids (segments_of h.shape blocks) (homes_of h.shape blocks)

@@ -3,6 +3,8 @@ use Rattle.std.proofs.Common.{◌≡◌, ◌≢◌, inl, inr, ◌<◌, ◌≤◌
 use Rattle.std.proofs.lemmas.Bool.{cases_lt, cases_Bool, eqb-true, false≢true, ne_eqb}
 use Rattle.std.proofs.lemmas.List.{get_or_past}
 use Rattle.std.specs.List.{list_any, AllByRecursion}
+use Rattle.rb_base.specs.declared.sizes.TheConstants.{SLOTS}
+use Rattle.rb_ring.specs.declared.extents.TheConstants.{EXTENTS, EXTENT_RECORDS}
 use Rattle.rb_base.specs.declared.ids.Xid.{Xid}
 use Rattle.rb_model.specs.Book.{Owner, Book, BookSlot, book_at, first_turn, free_slot, is_full, last_turn, oldest_turn, slot_owner}
 use Rattle.rb_model.specs.BookLaws.{IsBookSound}
@@ -43,7 +45,7 @@ same_any p (y ∷ ys) (suc i) x was now = ap (λ z. p y || z) (same_any p ys i x
 pub claimed_full : (h : Header) (i : ℕ) → (slot_in h i).state ≢ 1 → next_is_full (claimed i h) ≡ next_is_full h
 claimed_full h i idle =
     let was : is_first_in (least_turn h) (slot_in h i) ≡ false = ap (λ x. x && (not ((slot_in h i).touched == 0) && ((slot_in h i).first == least_turn h))) (ne_eqb (slot_in h i).state 1 idle) in
-    ap (λ x. (h.records == 40) && (x && (ring_count h == 8))) (same_any (is_first_in (least_turn h)) h.slots i (claimed_slot h (slot_in h i)) was refl)
+    ap (λ x. (h.records == EXTENT_RECORDS) && (x && (ring_count h == EXTENTS))) (same_any (is_first_in (least_turn h)) h.slots i (claimed_slot h (slot_in h i)) was refl)
 
 module _ (h : State) (xids : List Xid) (blocks : List (List ℕ)) (stand : BlocksStand h xids blocks) (g : ℕ) (g_in : g < h.shape.segments) where
   abbrev pub Segs : ℕ → Segment
@@ -58,7 +60,7 @@ module _ (h : State) (xids : List Xid) (blocks : List (List ℕ)) (stand : Block
   order : SegmentInOrder (commit_scn h.shape blocks) (logged_of h.shape blocks) (Segs g)
   order = stand.standing.stands.in_order g g_in
 
-  pub slots_counted : length Head.slots ≡ 16
+  pub slots_counted : length Head.slots ≡ SLOTS
   slots_counted = order.header.slots_counted
 
   pub book : IsBook Head Bk
@@ -92,8 +94,8 @@ module _ (h : State) (xids : List Xid) (blocks : List (List ℕ)) (stand : Block
       subst NoneMayTurn (sym taken.1) (none_stays Head i slots_counted taken.0.within taken.0.idle (full_then_none (commit_scn h.shape blocks) Head Bk tells turns full))
 
   -- an owner has one of the slots
-  pub owner_few : (i : ℕ) (o : Owner) → slot_owner Bk i ≡ Some o → i < 16
-  owner_few i o is = elim (cases_lt i 16) [
+  pub owner_few : (i : ℕ) (o : Owner) → slot_owner Bk i ≡ Some o → i < SLOTS
+  owner_few i o is = elim (cases_lt i SLOTS) [
     | inl few ↦ few
     | inr many ↦
         let out : get_or Bk.slots i free_slot ≡ free_slot = get_or_past Bk.slots i free_slot (let n = book.slots in omega (arith, n, many)) in
@@ -105,7 +107,7 @@ module _ (h : State) (xids : List Xid) (blocks : List (List ℕ)) (stand : Block
   owned i o is = let is_owned : IsOwned Head (slot_in Head i) (Some o) = subst (λ z. IsOwned Head (slot_in Head i) z) is (book.owners i (owner_few i o is)) in is_owned
 
   -- a slot that is Active has an owner
-  pub owner_of : (i : ℕ) → i < 16 → (slot_in Head i).state ≡ 1 → (o : Owner) × (slot_owner Bk i ≡ Some o)
+  pub owner_of : (i : ℕ) → i < SLOTS → (slot_in Head i).state ≡ 1 → (o : Owner) × (slot_owner Bk i ≡ Some o)
   owner_of i few active = by (slot_owner Bk i) refl (book.owners i few)
     where
       by : (o : Option Owner) → slot_owner Bk i ≡ o → IsOwned Head (slot_in Head i) o → (o : Owner) × (slot_owner Bk i ≡ Some o)

@@ -4,6 +4,9 @@ use Rattle.std.proofs.Math.ListN as lists
 use Rattle.std.proofs.Math.Nat.{div-add-mod}
 use Rattle.std.proofs.lemmas.Bool.{cases_eq, cases_lt, cases_Bool, and_parts, and_from, cond-true, cond-false, eq-eqb, eqb-true, false≢true, ne_eqb, not-true}
 use Rattle.std.specs.List.{list_any, list_all}
+use Rattle.rb_base.specs.declared.sizes.TheConstants.{SLOTS}
+use Rattle.rb_itl.specs.declared.slots.TheConstants.{ENTRIES}
+use Rattle.rb_cell.specs.declared.cell.TheConstants.{CELLS}
 use Rattle.rb_base.specs.Blocks.{home_block}
 use Rattle.rb_base.specs.declared.ids.Xid.{Xid}
 use Rattle.rb_model.specs.Book.{Book, is_full}
@@ -147,10 +150,10 @@ module _ (h : State) (xids : List Xid) (segments : ℕ → Segment) (homes : ℕ
       omega (arith, free, lock))))
       (λ locked. let open_at = home.locks locked.0 there.0 locked.1 in
       let o : HolderOf h xids segments homes stood table key first last locked.0 = presence.holder_of_lock h xids segments homes stood table key first last locked.0 there.0 (open_at, clean locked.0 open_at) there.1 locked.1 in
-      let a = div-add-mod o.slot 16 in
-      let seg : (entry_at b locked.0).xid.seg ≡ o.slot / 16 = ap (λ (x : Xid). x.seg) o.xid in
-      let slot : (entry_at b locked.0).xid.slot ≡ o.slot % 16 = ap (λ (x : Xid). x.slot) o.xid in
-      let at : 16 * (entry_at b locked.0).xid.seg + (entry_at b locked.0).xid.slot ≡ o.slot = omega (arith, a, seg, slot) in
+      let a = div-add-mod o.slot SLOTS in
+      let seg : (entry_at b locked.0).xid.seg ≡ o.slot / SLOTS = ap (λ (x : Xid). x.seg) o.xid in
+      let slot : (entry_at b locked.0).xid.slot ≡ o.slot % SLOTS = ap (λ (x : Xid). x.slot) o.xid in
+      let at : SLOTS * (entry_at b locked.0).xid.seg + (entry_at b locked.0).xid.slot ≡ o.slot = omega (arith, a, seg, slot) in
       ap (locked_for h b) (there.2 ∙ locked.1) ∙ (ap (λ z. session_of_owner (owner_at h z)) at ∙ (ap session_of_owner o.owned_by ∙ sym o.is)))
       (lock_cases (lock_of (cell_at b there.0))))
       (lock_found key b.cells)
@@ -176,7 +179,7 @@ module _ (h : State) (xids : List Xid) (segments : ℕ → Segment) (homes : ℕ
       (λ is. full.full_block_when h xids segments homes stood table first last key clean (all_taken (and_parts (not (list_any (keeps_key key) b.cells)) (list_all (λ x. is_some (taken x)) b.cells) is)))
       (λ is. taken_all (full.full_block_then h xids segments homes stood table first last key clean is))
     where
-      cells : length b.cells ≡ 16
+      cells : length b.cells ≡ CELLS
       cells = (stood.sizes (home_block h.shape table key)).1
 
       all_taken : (not (list_any (keeps_key key) b.cells) ≡ true) × (list_all (λ x. is_some (taken x)) b.cells ≡ true) → AllTaken b key
@@ -204,7 +207,7 @@ module _ (h : State) (xids : List Xid) (segments : ℕ → Segment) (homes : ℕ
       (λ is. slots.full_slots_when h xids segments homes stood s table key first last (λ i few. of_other i (all_get (is_others own) b.entries free_entry i (let c = entries in omega (arith, c, few)) is)))
       (λ is. get_all (is_others own) b.entries free_entry (λ i lt. passes i (slots.full_slots_then h xids segments homes stood s table key first last is i (let c = entries in omega (arith, c, lt)))))
     where
-      entries : length b.entries ≡ 8
+      entries : length b.entries ≡ ENTRIES
       entries = (stood.sizes (home_block h.shape table key)).0
 
       of_other : (i : ℕ) → is_others own (entry_at b i) ≡ true → IsOfOther h xids segments homes stood s table key first last i

@@ -1,6 +1,7 @@
 -- The first test that applies to a home and a header, computed on worked rows.
 use Rattle.std.proofs.Common.{◌≡◌, ℕ, true, false, [], ◌∷◌, map, None, Some, refl}
 use Rattle.std.specs.List.{range_with_len}
+use Rattle.rb_ring.specs.declared.extents.TheConstants.{EXTENT_RECORDS}
 use Rattle.rb_base.specs.declared.ids.Xid.{Xid}
 use Rattle.rb_model.specs.Book.{fresh_book, taken}
 use Rattle.rb_model.specs.State.{State, no_session}
@@ -65,7 +66,7 @@ full_header = record fresh_header {
   slots = record no_slot { state = 1; touched = 1; first = 2 } ∷ [];
   extents = map (λ n. record { ord = n; newest = 0 }) (range_with_len 2 8);
   head = 7;
-  records = 40;
+  records = EXTENT_RECORDS;
 }
 
 no_place : home_verdict two home full_header (Some (id 0)) 1 7 false ≡ RollbackFull

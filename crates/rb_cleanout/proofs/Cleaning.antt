@@ -4,6 +4,8 @@ use Rattle.std.proofs.lemmas.Bool.{cases_lt}
 use Rattle.std.proofs.lemmas.Bool.Decides.{nat_tests}
 use Rattle.std.proofs.lemmas.Grind.{get_or-set_at}
 use Rattle.std.proofs.lemmas.List.{length-map, get_or-map, get_or-set_other, get_or_past, set-get_or}
+use Rattle.rb_itl.specs.declared.slots.TheConstants.{ENTRIES}
+use Rattle.rb_cell.specs.declared.cell.TheConstants.{CELLS}
 use Rattle.rb_base.specs.declared.ids.Xid.{Xid}
 use Rattle.rb_cell.specs.Cells.{locked_by}
 use Rattle.rb_cell.specs.declared.cell.Cell.{Cell}
@@ -95,13 +97,13 @@ next_cleared flags n old mid now within so_far named made =
     }
 
 -- A lock is cleared by the flags where it is by the looks.
-same_lock : (look : Xid → Look) (home : Home) (flags : List Bool) → length home.entries ≡ 8 → length flags ≡ 8 → ((i : ℕ) → i < 8 → slice_index_or flags i false ≡ to_clean look (home_entry home i))
+same_lock : (look : Xid → Look) (home : Home) (flags : List Bool) → length home.entries ≡ ENTRIES → length flags ≡ 8 → ((i : ℕ) → i < ENTRIES → slice_index_or flags i false ≡ to_clean look (home_entry home i))
     → (cell : Cell) (lock : ℕ) → cell.lock ≡ lock → (if is_named flags lock then locked_by cell 0 else cell) ≡ locked_by cell (cleaned_lock look home lock)
 same_lock look home flags entries many told cell zero is = ap (locked_by cell) is
 same_lock look home flags entries many told cell (suc i) is = rw flag (chosen (to_clean look (home_entry home i)))
   where
     flag : slice_index_or flags i false ≡ to_clean look (home_entry home i)
-    flag = elim (cases_lt i 8) [
+    flag = elim (cases_lt i ENTRIES) [
       | inl lt ↦ told i lt
       | inr le ↦ get_or_past flags i false (omega (arith, many)) ∙ sym (ap (to_clean look) (get_or_past home.entries i free_entry (omega (arith, entries))))
     ]
@@ -111,8 +113,8 @@ same_lock look home flags entries many told cell (suc i) is = rw flag (chosen (t
     chosen false = ap (locked_by cell) is
 
 -- where all entries and all cells are done, the home is cleaned
-pub all_cleaned : (look : Xid → Look) (old mid now : Home) (flags : List Bool) → length old.entries ≡ 8 → length now.entries ≡ 8 → length old.cells ≡ 16 → length now.cells ≡ 16 → length flags ≡ 8
-    → EntriesCleaned look 8 old mid flags → LocksCleared flags 16 mid now → now ≡ cleaned_home look old
+pub all_cleaned : (look : Xid → Look) (old mid now : Home) (flags : List Bool) → length old.entries ≡ ENTRIES → length now.entries ≡ ENTRIES → length old.cells ≡ CELLS → length now.cells ≡ CELLS → length flags ≡ 8
+    → EntriesCleaned look 8 old mid flags → LocksCleared flags CELLS mid now → now ≡ cleaned_home look old
 all_cleaned look old mid now flags entries entries_now cells cells_now many cleaned cleared =
     let one : now.entries ≡ map (cleaned_entry look) old.entries =
     ext_get_or free_entry now.entries (map (cleaned_entry look) old.entries) (entries_now ∙ sym (length-map old.entries (cleaned_entry look) ∙ entries))

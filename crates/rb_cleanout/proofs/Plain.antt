@@ -9,7 +9,7 @@ use Rattle.rb_heap.specs.Cleaning.{cleaned_cell, cleaned_entry, cleaned_home, cl
 use Rattle.rb_heap.specs.Homes.{Home, empty_cell, home_entry, home_of}
 use Rattle.rb_itl.specs.Entries.{entry_at, free_entry}
 use Rattle.rb_itl.specs.declared.slots.Entry.{Entry}
-use Rattle.rb_itl.specs.declared.slots.TheConstants.{OPEN}
+use Rattle.rb_itl.specs.declared.slots.TheConstants.{ENTRIES, OPEN}
 use Rattle.rb_txntable.specs.declared.looks.Look.{Look}
 
 module _ (look : Xid → Look) (home : Home) (none : (i : ℕ) → (home_entry home i).kind ≢ OPEN) where
@@ -37,8 +37,8 @@ module _ (look : Xid → Look) (home : Home) (none : (i : ℕ) → (home_entry h
       rw (entries, cells) refl
 
 -- so is a block none of whose eight entries is Open
-pub block_stays : (block : List ℕ) → ((i : ℕ) → i < 8 → (entry_at block i).kind ≢ OPEN) → (look : Xid → Look) → cleaned_home look (home_of block) ≡ home_of block
-block_stays block none look = clean_stays look (home_of block) (λ i. elim (cases_lt i 8) [
+pub block_stays : (block : List ℕ) → ((i : ℕ) → i < ENTRIES → (entry_at block i).kind ≢ OPEN) → (look : Xid → Look) → cleaned_home look (home_of block) ≡ home_of block
+block_stays block none look = clean_stays look (home_of block) (λ i. elim (cases_lt i ENTRIES) [
   | inl lt ↦ λ is. none i lt (ap (λ (e : Entry). e.kind) (sym (entry_read block i free_entry lt)) ∙ is)
   | inr past ↦ λ is.
       let free : home_entry (home_of block) i ≡ free_entry = get_or_past (home_of block).entries i free_entry (omega (arith, past, entries_counted block)) in
@@ -47,5 +47,5 @@ block_stays block none look = clean_stays look (home_of block) (λ i. elim (case
 ])
 
 -- an Open entry of a block is one of its home
-pub is_open : (block : List ℕ) (i : ℕ) → i < 8 → (e : Entry) → e ≡ entry_at block i → e.kind ≡ OPEN → (home_entry (home_of block) i).kind ≡ OPEN
+pub is_open : (block : List ℕ) (i : ℕ) → i < ENTRIES → (e : Entry) → e ≡ entry_at block i → e.kind ≡ OPEN → (home_entry (home_of block) i).kind ≡ OPEN
 is_open block i lt e read kind = ap (λ (f : Entry). f.kind) (entry_read block i free_entry lt ∙ sym read) ∙ kind

@@ -1,9 +1,13 @@
 -- What the segments say that a file hasn't: nothing was made, nothing was given up, and no slot was taken.
-use Rattle.std.proofs.Common.{◌≡◌, inl, inr, ◌<◌, ◌≤◌, ◌+◌, ◌-◌, ◌/◌, ◌%◌, ◌&&◌, nat_le, ℕ, zero, suc, Bool, true, false, if◌then◌else◌, List, [], length, get_or, drop}
+use Rattle.std.proofs.Common.{◌*◌, ◌≡◌, inl, inr, ◌<◌, ◌≤◌, ◌+◌, ◌-◌, ◌/◌, ◌%◌, ◌&&◌, nat_le, ℕ, zero, suc, Bool, true, false, if◌then◌else◌, List, [], length, get_or, drop}
 use Rattle.std.proofs.Common.{None, refl, sym, ◌∙◌, ap, arith}
 use Rattle.std.proofs.Math.ListN.{get_or-eq_default}
 use Rattle.std.proofs.lemmas.Bool.{cases_lt}
 use Rattle.std.proofs.lemmas.Bool.Decides.{nat_tests}
+use Rattle.rb_undoblock.specs.declared.record.TheConstants.{UNDO_RECORDS}
+use Rattle.rb_base.specs.declared.sizes.TheConstants.{SLOTS}
+use Rattle.rb_ring.specs.declared.extents.TheConstants.{EXTENTS, EXTENT_RECORDS}
+use Rattle.rb_cell.specs.declared.cell.TheConstants.{CELLS}
 use Rattle.byteorder.specs.Endian.{big_from}
 use Rattle.rb_base.specs.Blocks.{block_of, header_block, AreBlocks}
 use Rattle.rb_base.specs.Fields.{number_at}
@@ -59,7 +63,7 @@ unfolding slot_state
 none_state i = refl
 
 -- a slot behind those that a header has
-slot_beyond : (h : Header) (i : ℕ) → length h.slots ≡ 16 → 16 ≤ i → slot_in h i ≡ no_slot
+slot_beyond : (h : Header) (i : ℕ) → length h.slots ≡ SLOTS → 16 ≤ i → slot_in h i ≡ no_slot
 slot_beyond h i many out = get_or-eq_default h.slots no_slot (omega (arith, many, out))
 
 module _ (shape : Shape) (blocks : List (List ℕ)) (g : ℕ) (whole : AreBlocks shape blocks) (behind : shape.segments ≤ g) where
@@ -80,7 +84,7 @@ module _ (shape : Shape) (blocks : List (List ℕ)) (g : ℕ) (whole : AreBlocks
   pub record_none : (i : ℕ) → record_in (segment_of shape blocks g) i ≡ None
   record_none i = by_first (nat_le 1 i) refl
     where
-      by_first : (t : Bool) → nat_le 1 i ≡ t → (if t && nat_le i h.writes then undo_in (segment_of shape blocks g).undo (position_of i) (extent_with h.extents (2 + (i - 1) / 40)) else None) ≡ None
+      by_first : (t : Bool) → nat_le 1 i ≡ t → (if t && nat_le i h.writes then undo_in (segment_of shape blocks g).undo (position_of i) (extent_with h.extents (2 + (i - 1) / EXTENT_RECORDS)) else None) ≡ None
       by_first false is = refl
       by_first true is = let few : nat_le i h.writes ≡ false = above i h.writes writes_none is in rw few refl
         where
@@ -89,7 +93,7 @@ module _ (shape : Shape) (blocks : List (List ℕ)) (g : ℕ) (whole : AreBlocks
 
   -- and of no transaction a slot tells
   pub look_none : (x : Xid) → look_in h x ≡ slot_look no_slot x.wrap
-  look_none x = elim (cases_lt x.slot 16) [
+  look_none x = elim (cases_lt x.slot SLOTS) [
     | inl lt ↦
         let slot : slot_in h x.slot ≡ slot_at [] x.slot = ap (λ (z : Header). slot_in z x.slot) header_is ∙ slot_read [] x.slot lt in
         ap (λ (s : TableSlot). slot_look s x.wrap) slot ∙ rw (none_wrap x.slot, none_state x.slot, none_newest x.slot) refl
@@ -104,10 +108,10 @@ module _ (shape : Shape) (blocks : List (List ℕ)) (x : Xid) where
   unfolding segment_of
   read_header = refl
 
-  pub look_there : x.slot < 16 → look_in (segment_of shape blocks x.seg).header x ≡ slot_look (slot_at header x.slot) x.wrap
+  pub look_there : x.slot < SLOTS → look_in (segment_of shape blocks x.seg).header x ≡ slot_look (slot_at header x.slot) x.wrap
   look_there lt = ap (λ (h : Header). look_in h x) read_header ∙ ap (λ (s : TableSlot). slot_look s x.wrap) (slot_read header x.slot lt)
 
-  pub look_out : 16 ≤ x.slot → look_in (segment_of shape blocks x.seg).header x ≡ slot_look no_slot x.wrap
+  pub look_out : CELLS ≤ x.slot → look_in (segment_of shape blocks x.seg).header x ≡ slot_look no_slot x.wrap
   look_out out = ap (λ (h : Header). look_in h x) read_header ∙ ap (λ (s : TableSlot). slot_look s x.wrap) (slot_beyond (header_of header) x.slot (slots_many header) out)
 
 pub lost_there : (shape : Shape) (blocks : List (List ℕ)) (g : ℕ) → (segment_of shape blocks g).header.lost ≡ lost_number (block_of blocks (header_block shape g))
@@ -120,6 +124,6 @@ unfolding segment_of
 header_read shape blocks g block is = ap header_of (sym is)
 
 -- a segment's record at a place, of which an undo block has ten
-pub place_read : (shape : Shape) (blocks : List (List ℕ)) (g at : ℕ) → at < 320 → get_or (segment_of shape blocks g).undo at no_undo ≡ undo_at (block_of blocks (header_block shape g + 1 + at / 10)) (at % 10)
+pub place_read : (shape : Shape) (blocks : List (List ℕ)) (g at : ℕ) → at < (EXTENTS * EXTENT_RECORDS) → get_or (segment_of shape blocks g).undo at no_undo ≡ undo_at (block_of blocks (header_block shape g + 1 + at / UNDO_RECORDS)) (at % UNDO_RECORDS)
 unfolding segment_of
-place_read shape blocks g at few = get_or-map-range_with_len (λ i. undo_at (block_of blocks (undo_block shape g i)) (i % 10)) 0 320 at at no_undo few (omega arith)
+place_read shape blocks g at few = get_or-map-range_with_len (λ i. undo_at (block_of blocks (undo_block shape g i)) (i % UNDO_RECORDS)) 0 (EXTENTS * EXTENT_RECORDS) at at no_undo few (omega arith)

@@ -4,6 +4,7 @@ use Rattle.std.proofs.lemmas.Bool.{cases_eq}
 use Rattle.std.proofs.lemmas.List.{ext_get_or, get_or-set_other, get_or-set_same}
 use Rattle.std.proofs.lemmas.List.FromFn.{get_or-map-range_with_len, length-map-range_with_len}
 use Rattle.std.specs.List.{range_with_len}
+use Rattle.rb_cell.specs.declared.cell.TheConstants.{CELLS}
 use Rattle.rb_cell.specs.Cells.{cell_at}
 use Rattle.rb_cell.specs.declared.cell.Cell.{Cell}
 use Rattle.rb_heap.specs.Homes.{empty_cell, home_of}
@@ -36,6 +37,6 @@ pub entries_all : (block : List ℕ) (i : ℕ) (xs : List Entry) → 8 ≤ i →
 unfolding home_of
 entries_all block i xs le long all = filled_all (entry_at block) free_entry xs 8 long (λ j lt. all j (omega (arith, lt, le)))
 
-pub cells_all : (block : List ℕ) (i : ℕ) (xs : List Cell) → 16 ≤ i → length xs ≡ 16 → CellsFilled block i xs → xs ≡ (home_of block).cells
+pub cells_all : (block : List ℕ) (i : ℕ) (xs : List Cell) → CELLS ≤ i → length xs ≡ CELLS → CellsFilled block i xs → xs ≡ (home_of block).cells
 unfolding home_of
-cells_all block i xs le long all = filled_all (cell_at block) empty_cell xs 16 long (λ j lt. all j (omega (arith, lt, le)))
+cells_all block i xs le long all = filled_all (cell_at block) empty_cell xs CELLS long (λ j lt. all j (omega (arith, lt, le)))

@@ -2,6 +2,7 @@
 use Rattle.std.proofs.Common.{◌≡◌, ◌≢◌, ◌<◌, ◌≤◌, ◌+◌, ◌-◌, ◌*◌, ◌/◌, ◌%◌, ◌==◌, ◌&&◌, nat_le, ℕ, zero, suc, Bool, true, false, if◌then◌else◌}
 use Rattle.std.proofs.Common.{List, [], ◌∷◌, length, get_or, Some, None, refl, sym, ◌∙◌, ap, arith}
 use Rattle.std.proofs.lemmas.Bool.Decides.{nat_tests}
+use Rattle.rb_ring.specs.declared.extents.TheConstants.{EXTENT_RECORDS}
 use Rattle.rb_model.specs.Book.{turn_of}
 use Rattle.rb_ring.specs.Ring.{extent_ord, record_count}
 use Rattle.rb_ring.specs.declared.extents.Extent.{Extent}
@@ -39,12 +40,12 @@ module _ (header : List ℕ) (index : ℕ) (s : Segment) (same : s.header ≡ he
   extents_is : s.header.extents ≡ (header_of header).extents
   extents_is = ap (λ (h : Header). h.extents) same
 
-  pub place_there : (e : ℕ) → 1 ≤ index → index ≤ record_count header → extent_with (header_of header).extents (2 + (index - 1) / 40) ≡ Some e → record_in s index ≡ Some (get_or s.undo (40 * e + (index - 1) % 40) no_undo)
+  pub place_there : (e : ℕ) → 1 ≤ index → index ≤ record_count header → extent_with (header_of header).extents (2 + (index - 1) / EXTENT_RECORDS) ≡ Some e → record_in s index ≡ Some (get_or s.undo (EXTENT_RECORDS * e + (index - 1) % EXTENT_RECORDS) no_undo)
   place_there e some few at =
       in_made s index some (omega (arith, few, writes_is))
       ∙ ap (undo_in s.undo (position_of index)) (ap (λ (xs : List Extent). extent_with xs (turn_of index)) extents_is ∙ at)
 
-  pub place_gone : 1 ≤ index → index ≤ record_count header → extent_with (header_of header).extents (2 + (index - 1) / 40) ≡ None → record_in s index ≡ None
+  pub place_gone : 1 ≤ index → index ≤ record_count header → extent_with (header_of header).extents (2 + (index - 1) / EXTENT_RECORDS) ≡ None → record_in s index ≡ None
   place_gone some few at =
       in_made s index some (omega (arith, few, writes_is))
       ∙ ap (undo_in s.undo (position_of index)) (ap (λ (xs : List Extent). extent_with xs (turn_of index)) extents_is ∙ at)

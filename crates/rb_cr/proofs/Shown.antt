@@ -6,7 +6,7 @@ use Rattle.std.proofs.lemmas.Bool.Decides.{nat_tests}
 use Rattle.std.proofs.lemmas.List.FromFn.{get_or-map-range_with_len, length-map-range_with_len}
 use Rattle.rb_cell.specs.Cells.{cell_at}
 use Rattle.rb_cell.specs.declared.cell.Cell.{Cell}
-use Rattle.rb_cell.specs.declared.cell.TheConstants.{ROW, EMPTY}
+use Rattle.rb_cell.specs.declared.cell.TheConstants.{CELLS, EMPTY, ROW}
 use Rattle.rb_cr.specs.Rows.{IsNext, cell_rows}
 use Rattle.rb_heap.specs.Homes.{empty_cell, home_of}
 use Rattle.law_read.specs.Reading.{or_else, rows_in}
@@ -16,13 +16,13 @@ use Rattle.law_home.specs.Kinds as kinds
 use Rattle.law_home.specs.Walk.{Rows, row_of}
 
 -- the cells of a block
-pub cell_there : (block : List ℕ) (c : ℕ) → c < 16 → get_or (home_of block).cells c empty_cell ≡ cell_at block c
+pub cell_there : (block : List ℕ) (c : ℕ) → c < CELLS → get_or (home_of block).cells c empty_cell ≡ cell_at block c
 unfolding home_of
-cell_there block c lt = get_or-map-range_with_len (cell_at block) 0 16 c c empty_cell lt (omega arith)
+cell_there block c lt = get_or-map-range_with_len (cell_at block) 0 CELLS c c empty_cell lt (omega arith)
 
-pub sixteen : (block : List ℕ) → length (home_of block).cells ≡ 16
+pub sixteen : (block : List ℕ) → length (home_of block).cells ≡ CELLS
 unfolding home_of
-sixteen block = length-map-range_with_len (cell_at block) 0 16
+sixteen block = length-map-range_with_len (cell_at block) 0 CELLS
 
 -- a cell shows its row, and no other
 row_here : (x : Cell) (k : ℕ) → x.state ≡ ROW → k ≡ x.key → row_of (walk_cell x) k ≡ Some x.value.items

@@ -1,6 +1,7 @@
 -- One record taken back in a decoded home is one step of the walk's home.
 use Rattle.std.proofs.Common.{◌≡◌, ◌||◌, inr, ◌<◌, ℕ, Bool, true, false, if◌then◌else◌, length, get_or}
 use Rattle.std.proofs.Common.{Option, Some, None, refl, sym, ◌∙◌, ap, subst, arith}
+use Rattle.rb_cell.specs.declared.cell.TheConstants.{CELLS}
 use Rattle.rb_base.specs.declared.ids.Xid.{Xid}
 use Rattle.rb_base.specs.declared.shape.Shape.{Shape}
 use Rattle.rb_cr.specs.Parts.{Took}
@@ -18,7 +19,7 @@ use Rattle.law_home.specs.Kinds.{Entry, Undo}
 use Rattle.law_home.specs.Walk.{Env, Home, entry_at, back}
 use Rattle.rb_cr.proofs.Tops.{entry_is}
 
-module _ (shape : Shape) (env : Env) (s : Scratch) (i : ℕ) (xid : Xid) (eight : length s.entries ≡ 8) (sixteen : length s.cells ≡ 16) (there : i < 8) (found : SegmentRecord)
+module _ (shape : Shape) (env : Env) (s : Scratch) (i : ℕ) (xid : Xid) (eight : length s.entries ≡ 8) (sixteen : length s.cells ≡ CELLS) (there : i < 8) (found : SegmentRecord)
     (told : walk_found shape (Some found) ≡ env.store (place_of shape (get_or s.entries i zero_entry).newest)) where
   abbrev b : Home
   b = scratch_home shape s

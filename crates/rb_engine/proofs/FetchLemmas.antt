@@ -1,5 +1,6 @@
 -- What a search for a cursor's next row finds, from what the rebuilds of homes show, and what a fetch makes of it.
 use Rattle.std.proofs.Common.{not, ap, map, ◌-◌, ◌≡◌, inl, inr, ◌<◌, ◌≤◌, ◌%◌, ◌==◌, ◌&&◌, ◌||◌, nat_lt, if◌then◌else◌, ℕ, Bool, true, false, List, [], length, Option, Some, None, Result, Ok, Err, IfOk, IfErr, refl, sym, ◌∙◌, subst, arith, is_none, ◌∷◌}
+use Rattle.rb_sessions.specs.declared.sessions.TheConstants.{SESSIONS}
 use Rattle.rb_engine.specs.Does.{with_copies}
 use Rattle.law_copies.specs.Copies.{CopiesStand}
 use Rattle.rb_engine.proofs.CopyLemmas.{copies_same, knows_copies}
@@ -139,7 +140,7 @@ pub answer_by : (h : State) (who : ℕ) (name : List ℕ) (o : Option state.Curs
 answer_by h who name o r is answer = subst (λ (z : Option state.Cursor). r ≡ machine.first_of ((is_none z, Refused NoCursor) ∷ []) (next_row h z)) (sym is) answer
 
 -- an engine that stands for a state, and a cursor that its table has
-module _ {S : Type 0} (s : Ghosts S) (laws : Laws s) (h : State) (old : EngineView S) (st : Stands s h old) (going : h.stopped ≡ false) (who : ℕ) (there : (1 ≤ who) × (who ≤ 16)) (name : List ℕ) (early : none_applies (early_tests h (machine.Fetch who name)) ≡ true)
+module _ {S : Type 0} (s : Ghosts S) (laws : Laws s) (h : State) (old : EngineView S) (st : Stands s h old) (going : h.stopped ≡ false) (who : ℕ) (there : (1 ≤ who) × (who ≤ SESSIONS)) (name : List ℕ) (early : none_applies (early_tests h (machine.Fetch who name)) ≡ true)
     (m : Cursor) (is_named : named name (kept_at old.memory.sessions who).cursors ≡ Some m) where
   abbrev blocks : List (List ℕ)
   blocks = s.blocks old.store

@@ -1,6 +1,7 @@
 -- A call gives the log few groups: what it is to put back are changes of one transaction, and what it cleans are homes
 -- of one table.
-use Rattle.std.proofs.Common.{◌≡◌, ◌≤◌, ◌+◌, ◌^◌, ⊎_elim, ℕ, zero, suc, List, length, arith}
+use Rattle.std.proofs.Common.{◌*◌, ◌≡◌, ◌≤◌, ◌+◌, ◌^◌, ⊎_elim, ℕ, zero, suc, List, length, arith}
+use Rattle.rb_ring.specs.declared.extents.TheConstants.{EXTENTS, EXTENT_RECORDS}
 use Rattle.rb_base.specs.declared.ids.Xid.{Xid}
 use Rattle.rb_model.specs.Calls.{Answer, Call, Cancel, Checkpoint, CloseCursor, Commit, Done, End, Fetch, Given, HasNoSlot}
 use Rattle.rb_model.specs.Calls.{Marked, Marks, Numbered, OpenCursor, Owned, Refused, Rollback, RollbackTo, SetMode, SetSavepoint, Waits, Write}
@@ -12,11 +13,11 @@ use Rattle.law_blocks.specs.States.{BlocksStand}
 use Rattle.law_sessions.proofs.Few.{session_few}
 
 module _ (h : State) (xids : List Xid) (blocks : List (List ℕ)) (stand : BlocksStand h xids blocks) where
-  own_few : (s : ℕ) → length (session_own h s) ≤ 320
+  own_few : (s : ℕ) → length (session_own h s) ≤ (EXTENTS * EXTENT_RECORDS)
   own_few zero = session_few h xids blocks stand 1 (omega arith)
   own_few (suc s) = session_few h xids blocks stand (suc s) (omega arith)
 
-  ends_few : (s back n : ℕ) → back ≤ 320 → Ends h s back n → n ≤ 2 ^ 14
+  ends_few : (s back n : ℕ) → back ≤ (EXTENTS * EXTENT_RECORDS) → Ends h s back n → n ≤ 2 ^ 14
   ends_few s back n few ends = ⊎_elim
       (λ (one : (g : ℕ) × (i : ℕ) × Owned h s g i × (n ≡ back + 1)). let is = one.3 in omega (arith, is, few))
       (λ (none : HasNoSlot h s × (n ≡ 0)). let is = none.1 in omega (arith, is))

@@ -1,5 +1,6 @@
 -- What a commit leaves, from the groups of its step, and what the end of a transaction without a slot does.
 use Rattle.std.proofs.Common.{◌≡◌, inl, ◌<◌, ◌≤◌, ◌+◌, ◌-◌, ◌^◌, ◌∷◌, ◌++◌, nat_le, ℕ, true, false, not, min, List, [], length, map, Some, None, Result, Ok, Err, OnOk, refl, sym, ◌∙◌, ap, subst, arith, append-nil, length-append}
+use Rattle.rb_sessions.specs.declared.sessions.TheConstants.{SESSIONS}
 use Rattle.rb_engine.proofs.CopyLemmas.{copies_committed, copies_same}
 use Rattle.std.proofs.lemmas.Bool.{le-leb, and_from}
 use Rattle.std.proofs.lemmas.List.{length-set}
@@ -72,17 +73,17 @@ module _ {S : Type 0} (s : Ghosts S) (told : s.tells) (laws : Laws s) (h : State
       commits_failed new one.groups one.few both one.made
 
 -- a session of that number is there
-pub is_there : (h : State) (who : ℕ) → (1 ≤ who) × (who ≤ 16) → length h.sessions ≡ 16 → is_session h who ≡ true
+pub is_there : (h : State) (who : ℕ) → (1 ≤ who) × (who ≤ SESSIONS) → length h.sessions ≡ SESSIONS → is_session h who ≡ true
 is_there h who there sixteen = and_from (nat_le 1 who) (nat_le who (length h.sessions)) (le-leb 1 who there.0) (le-leb who (length h.sessions) (omega (arith, there, sixteen)))
 
 -- no early test of a call of it applies, where it isn't in the queue
-pub no_early : (h : State) (kept : Kept) (who : ℕ) → Knows h kept → h.stopped ≡ false → (1 ≤ who) × (who ≤ 16) → is_queued who kept.waits ≡ false → none_applies (session_tests h who) ≡ true
+pub no_early : (h : State) (kept : Kept) (who : ℕ) → Knows h kept → h.stopped ≡ false → (1 ≤ who) × (who ≤ SESSIONS) → is_queued who kept.waits ≡ false → none_applies (session_tests h who) ≡ true
 no_early h kept who knows going there free =
     let out : is_queued who h.queue ≡ false = ap (is_queued who) (sym (knows.queue going).waits) ∙ free in
     rw (going, is_there h who there knows.sixteen, out) refl
 
 module _ {S : Type 0} (s : Ghosts S) (told : s.tells) (laws : Laws s) (h : State) (old : EngineView S) (who : ℕ) (x : Xid) (st : Stands s h old) (going : h.stopped ≡ false)
-    (there : (1 ≤ who) × (who ≤ 16)) (own : (kept_at old.memory.sessions who).own ≡ Some x) where
+    (there : (1 ≤ who) × (who ≤ SESSIONS)) (own : (kept_at old.memory.sessions who).own ≡ Some x) where
   pub goes : Goes s h old
   goes = st.goes going
 
@@ -145,7 +146,7 @@ module _ {S : Type 0} (s : Ghosts S) (told : s.tells) (laws : Laws s) (h : State
 
 -- A transaction without a table slot ends in memory alone.
 pub does_ended : {S : Type 0} (s : Ghosts S) (laws : Laws s) (h : State) (call : Call) (who : ℕ) (cursors : List Cursor) (old new : EngineView S) → (st : Stands s h old) → (going : h.stopped ≡ false)
-    → (1 ≤ who) × (who ≤ 16) → (s.failed old.store ≡ false) → ((now : State) → Keeps h call Done now) → (kept_at old.memory.sessions who).own ≡ None → (kept_at old.memory.sessions who).count ≡ 0 → none_applies (early_tests h call) ≡ true
+    → (1 ≤ who) × (who ≤ SESSIONS) → (s.failed old.store ≡ false) → ((now : State) → Keeps h call Done now) → (kept_at old.memory.sessions who).own ≡ None → (kept_at old.memory.sessions who).count ≡ 0 → none_applies (early_tests h call) ≡ true
     → (HasNoSlot h who → is_empty (session_own h who) ≡ true → MayAnswer h (s.lsn old.store) call Done)
     → (HasNoSlot h who → is_empty (session_own h who) ≡ true → After h call Done (freeing (ended h who cursors) who)) → (HasNoSlot h who → is_empty (session_own h who) ≡ true → GrowsBy h call 0)
     → (HasNoSlot h who → session_own h who ≡ [] → (xids : List Xid) → BlocksStand h xids (s.blocks old.store) → Remembers h xids (env_of h.shape (s.blocks old.store)) old.memory.sessions → Remembers (freeing (ended h who cursors) who) xids (env_of h.shape (s.blocks old.store)) new.memory.sessions)

@@ -1,6 +1,7 @@
 -- Why a call is too old, what the test of a serializable write finds, and what the write does then.
 use Rattle.std.proofs.Common.{◌≡◌, ◌≢◌, ◌≤◌, ◌++◌, ◌&&◌, ℕ, Bool, true, false, not, nat_le, List, [], Option, Some, None, Result, Ok, Err, IfErr, IfOk, OnOk, refl, sym, ◌∙◌, ap, subst, arith}
 use Rattle.std.proofs.lemmas.Bool.{and_from, le-leb}
+use Rattle.rb_sessions.specs.declared.sessions.TheConstants.{SESSIONS}
 use Rattle.rb_write.specs.declared.ask.AttemptFault.{AttemptFault}
 use Rattle.rb_write.specs.declared.ask.AttemptFault.TheVariants as attempts
 use Rattle.rb_base.specs.Blocks.{home_block}
@@ -61,7 +62,7 @@ old_reply h xids blocks stand logged call why n scn lost early reads because =
     too_old a b x y e f = rw (e, f) refl
 
 -- What the walk back over the key's home finds is what the machine says of the row.
-module _ (h : State) (xids : List Xid) (blocks : List (List ℕ)) (sessions : List KeptSession) (stand : BlocksStand h xids blocks) (knows : Remembers h xids (env_of h.shape blocks) sessions) (s table key : ℕ) (there : (1 ≤ s) × (s ≤ 16)) (in_tables : (1 ≤ table) × (table ≤ h.shape.tables)) where
+module _ (h : State) (xids : List Xid) (blocks : List (List ℕ)) (sessions : List KeptSession) (stand : BlocksStand h xids blocks) (knows : Remembers h xids (env_of h.shape blocks) sessions) (s table key : ℕ) (there : (1 ≤ s) × (s ≤ SESSIONS)) (in_tables : (1 ≤ table) × (table ≤ h.shape.tables)) where
   its : isolation_of h s ≡ (kept_at sessions s).isolation
   its = sym (knows.each s there.0 there.1).isolation
 
@@ -124,7 +125,7 @@ none_waited queue s (Some u) own =
 
 -- A write that comes too late for its transaction does nothing.
 module _ {S : Type 0} (s : Ghosts S) (told : s.tells) (laws : Laws s) (h : State) (old : EngineView S) (st : Stands s h old) (going : h.stopped ≡ false) (who table key : ℕ) (action : Action)
-    (there : (1 ≤ who) × (who ≤ 16)) (early : none_applies (early_tests h (Write who table key action)) ≡ true) (others : NotOthers h who table key) (place : (g : ℕ) × (i : ℕ) × WritesIn h who g i)
+    (there : (1 ≤ who) × (who ≤ SESSIONS)) (early : none_applies (early_tests h (Write who table key action)) ≡ true) (others : NotOthers h who table key) (place : (g : ℕ) × (i : ℕ) × WritesIn h who g i)
     (new : EngineView S) (same : SameStore s old.store new.store) where
   abbrev pub goes : Goes s h old
   goes = st.goes going

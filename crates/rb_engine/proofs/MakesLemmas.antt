@@ -1,5 +1,7 @@
 -- What a call makes of the blocks, from what it does with the store.
 use Rattle.std.proofs.Common.{◌≡◌, inl, inr, ◌<◌, ◌≤◌, ◌+◌, ◌*◌, ℕ, true, false, List, [], length, Some, None, Result, Ok, Err, IfOk, refl, sym, ◌∙◌, subst, arith}
+use Rattle.rb_base.specs.declared.sizes.TheConstants.{SLOTS}
+use Rattle.rb_sessions.specs.declared.sessions.TheConstants.{SESSIONS}
 use Rattle.rb_base.specs.Logs.{Laws, Logs}
 use Rattle.rb_base.specs.declared.ids.Xid.{Xid}
 use Rattle.rb_base.specs.declared.store.Store.{Ghosts}
@@ -59,7 +61,7 @@ module _ {S : Type 0} (s : Ghosts S) (told : s.tells) where
 
 -- The end of a transaction that has a slot.
 module _ {S : Type 0} (s : Ghosts S) (told : s.tells) (laws : Laws s) (h : State) (old : EngineView S) (who : ℕ) (x : Xid) (st : Stands s h old) (going : h.stopped ≡ false)
-    (there : (1 ≤ who) × (who ≤ 16)) (own : (kept_at old.memory.sessions who).own ≡ Some x) (lsn : ℕ) (new : S) where
+    (there : (1 ≤ who) × (who ≤ SESSIONS)) (own : (kept_at old.memory.sessions who).own ≡ Some x) (lsn : ℕ) (new : S) where
   abbrev xids : List Xid
   xids = (goes s told laws h old who x st going there own).xids
 
@@ -73,7 +75,7 @@ module _ {S : Type 0} (s : Ghosts S) (told : s.tells) (laws : Laws s) (h : State
   pub makes_left : length (session_own h who) ≡ 0 → PutsAllBack s h xids who x old.store new true → Makes h (Commit who) Done lsn (s.blocks old.store) (s.blocks new)
   makes_left none puts =
       let last = (puts []).4 in
-      inr (none_own (session_own h who) none, inl (x.seg, x.slot, by.owned, last.0, subst (λ (n : ℕ). BackOver h.shape (16 * x.seg + x.slot) n (s.blocks old.store) last.0) none last.1, last.2))
+      inr (none_own (session_own h who) none, inl (x.seg, x.slot, by.owned, last.0, subst (λ (n : ℕ). BackOver h.shape (SLOTS * x.seg + x.slot) n (s.blocks old.store) last.0) none last.1, last.2))
 
   pub makes_back : PutsAllBack s h xids who x old.store new true → Makes h (Rollback who) Done lsn (s.blocks old.store) (s.blocks new)
   makes_back puts = let last = (puts []).4 in inl (x.seg, x.slot, by.owned, last.0, last.1, last.2)
@@ -83,7 +85,7 @@ module _ {S : Type 0} (s : Ghosts S) (told : s.tells) (laws : Laws s) (h : State
   makes_cut name p at puts = (p, at, inl (x.seg, x.slot, by.owned, puts.4))
 
 -- The end of one that has none.
-module _ {S : Type 0} (s : Ghosts S) (h : State) (old : EngineView S) (goes : Goes s h old) (who : ℕ) (there : (1 ≤ who) × (who ≤ 16)) (own : (kept_at old.memory.sessions who).own ≡ None) where
+module _ {S : Type 0} (s : Ghosts S) (h : State) (old : EngineView S) (goes : Goes s h old) (who : ℕ) (there : (1 ≤ who) × (who ≤ SESSIONS)) (own : (kept_at old.memory.sessions who).own ≡ None) where
   pub no_slot : HasNoSlot h who
   no_slot = let env = env_of h.shape (s.blocks old.store) in none_owned h env who (subst (IsOwnId h env who) own (goes.remembers.each who there.0 there.1).id)
 

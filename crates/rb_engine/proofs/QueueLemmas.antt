@@ -1,5 +1,7 @@
 -- The queue in memory and in a state, and that neither a store nor a crash knows anything of it.
 use Rattle.std.proofs.Common.{◌≡◌, ◌≢◌, inl, inr, ◌≤◌, ◌-◌, ◌*◌, ◌==◌, ◌||◌, ℕ, zero, suc, Bool, true, false, List, [], ◌∷◌, length, map, set, get_or, Option, Some, None, refl, sym, ◌∙◌, ap, subst, arith}
+use Rattle.rb_base.specs.declared.sizes.TheConstants.{SLOTS}
+use Rattle.rb_sessions.specs.declared.sessions.TheConstants.{SESSIONS}
 use Rattle.rb_engine.proofs.CopyLemmas.{copies_same}
 use Rattle.std.proofs.lemmas.Bool.{cases_eq, ne_eqb}
 use Rattle.std.proofs.lemmas.List.{get_or-set_other, get_or-set_same}
@@ -82,7 +84,7 @@ queue_left kept now s is waits sessions = record {
 }
 
 -- as one begins to wait, with its write
-pub queue_waiting : (kept now : Kept) (s on : ℕ) (a : Asked) → IsQueue kept → (1 ≤ s) × (s ≤ 16) → length kept.sessions ≡ 16 → is_queued s kept.waits ≡ false → now.waits ≡ waiting s on kept.waits
+pub queue_waiting : (kept now : Kept) (s on : ℕ) (a : Asked) → IsQueue kept → (1 ≤ s) × (s ≤ SESSIONS) → length kept.sessions ≡ SESSIONS → is_queued s kept.waits ≡ false → now.waits ≡ waiting s on kept.waits
     → now.sessions ≡ with_kept kept.sessions s (holding a (kept_at kept.sessions s)) → IsQueue now
 queue_waiting kept now s on a is there sixteen free waits sessions = record {
   once = subst AreQueuedOnce (sym waits) (wait_keeps s on kept.waits is.once there.0 there.1 free);
@@ -125,7 +127,7 @@ module _ (h : State) (queue : List Waiter) (asked : List (Option Asked)) where
   lives_same : (env : Env) → lives_of Next env ≡ lives_of h env
   lives_same env =
       let each : (λ (t : ℕ). owned Next (env.xid t) (owner_at h t)) ≡ (λ (t : ℕ). owned h (env.xid t) (owner_at h t)) = λ i t. owned_same (env.xid t) (owner_at h t) i in
-      ap (λ (f : ℕ → List walk.Change). map f (range_with_len 0 (16 * h.shape.segments))) each
+      ap (λ (f : ℕ → List walk.Change). map f (range_with_len 0 (SLOTS * h.shape.segments))) each
 
   pub blocks_stand : (xids : List Xid) (blocks : List (List ℕ)) → BlocksStand h xids blocks → BlocksStand Next xids blocks
   blocks_stand xids blocks stand = record {

@@ -3,6 +3,7 @@ use Rattle.std.proofs.Common.{◌≡◌, ◌⊎◌, inl, inr, ⊎_elim, ◌<◌,
 use Rattle.std.proofs.lemmas.Bool.{cases_Bool, cases_lt, false≢true}
 use Rattle.std.proofs.lemmas.Bool.Decides.{nat_tests}
 use Rattle.std.proofs.lemmas.List.{get_or-set_same, get_or-set_other}
+use Rattle.rb_base.specs.declared.sizes.TheConstants.{SLOTS}
 use Rattle.rb_base.specs.declared.ids.Xid.{Xid}
 use Rattle.rb_engine.specs.Retains.{IsOldestSlot, Retains, book_ready}
 use Rattle.rb_model.specs.Book.{Book, IsFirstFree, book_at, fresh_book, is_full, is_pinned, marked, needs_turn, taken}
@@ -55,14 +56,14 @@ module _ (h : State) (xids : List Xid) (blocks : List (List ℕ)) (stand : Block
       let book : IsBook (segments_of h.shape blocks g).header (book_at h.books g) = stand.tell.books g there in
       let one = book.newest i few in
       let two = book.newest j few2 in
-      let first : (16 * g + i) / 16 ≡ g = omega (arith, few) in
-      let second : (16 * g + j) / 16 ≡ g = omega (arith, few2) in
-      let i_is : (16 * g + i) % 16 ≡ i = omega (arith, few) in
-      let j_is : (16 * g + j) % 16 ≡ j = omega (arith, few2) in
+      let first : (16 * g + i) / SLOTS ≡ g = omega (arith, few) in
+      let second : (16 * g + j) / SLOTS ≡ g = omega (arith, few2) in
+      let i_is : (16 * g + i) % SLOTS ≡ i = omega (arith, few) in
+      let j_is : (16 * g + j) % SLOTS ≡ j = omega (arith, few2) in
       let t = stand.standing.stands.apart (16 * g + i) (16 * g + j) (omega (arith, there, few)) (omega (arith, there, few2)) (rw (first, i_is) (omega (arith, some, one))) (rw (first, second, i_is, j_is) (sym one ∙ same ∙ two)) in
       omega (arith, t)
 
-  module _ (s g i : ℕ) (within : WritesIn h s g i) (there : g < h.shape.segments) (few : i < 16) where
+  module _ (s g i : ℕ) (within : WritesIn h s g i) (there : g < h.shape.segments) (few : i < SLOTS) where
     abbrev book : Book
     book = book_at h.books g
 

@@ -1,5 +1,7 @@
 -- What a rollback leaves, change by change, from the groups of its steps.
 use Rattle.std.proofs.Common.{◌≡◌, ◌<◌, ◌≤◌, ◌+◌, ◌-◌, ◌*◌, ◌^◌, ◌∷◌, ◌++◌, inl, inr, ⊎_elim, ℕ, zero, suc, Bool, true, false, not, List, [], length, length-append, map, set, take, Option, Some, None, Result, Ok, Err, OnOk, refl, sym, ◌∙◌, ap, subst, arith}
+use Rattle.rb_base.specs.declared.sizes.TheConstants.{SLOTS}
+use Rattle.rb_sessions.specs.declared.sessions.TheConstants.{SESSIONS}
 use Rattle.law_copies.proofs.Ages.{back_ages, end_ages}
 use Rattle.law_aging.proofs.Aging as aging
 use Rattle.law_aging.specs.Kept.{SegmentsAge}
@@ -91,7 +93,7 @@ module _ {S : Type 0} (s : Ghosts S) where
     pub id : IsOwnId (with_own h who left) (env_of h.shape (s.blocks now)) who (Some x)
     pub lsn : s.lsn now ≡ s.lsn old + turn
     pub survives : (before : Option Call) → s.keeps → Survives s (s.slots old) before h (with_own h who left) old now
-    pub back : BackOver h.shape (16 * x.seg + x.slot) turn (s.blocks old) (s.blocks now)
+    pub back : BackOver h.shape (SLOTS * x.seg + x.slot) turn (s.blocks old) (s.blocks now)
     pub ages : SegmentsAge (segments_of h.shape (s.blocks old)) (segments_of h.shape (s.blocks now))
 
   -- a state that a rollback of so many changes starts from
@@ -175,12 +177,12 @@ module _ {S : Type 0} (s : Ghosts S) where
               back =
                   let named = slot_named m (env_of h.shape (s.blocks mid)) who made.slot x left.id made.owns in
                   let parts = div-add-mod made.slot 16 in
-                  let at : made.slot ≡ 16 * x.seg + x.slot = omega (arith, parts, ap (λ (z : Xid). z.seg) named, ap (λ (z : Xid). z.slot) named) in
-                  let put : IsPutBack h.shape (16 * x.seg + x.slot) (last_record h.shape (s.blocks mid) (16 * x.seg + x.slot)) (s.blocks mid) (s.blocks new) =
+                  let at : made.slot ≡ SLOTS * x.seg + x.slot = omega (arith, parts, ap (λ (z : Xid). z.seg) named, ap (λ (z : Xid). z.slot) named) in
+                  let put : IsPutBack h.shape (SLOTS * x.seg + x.slot) (last_record h.shape (s.blocks mid) (SLOTS * x.seg + x.slot)) (s.blocks mid) (s.blocks new) =
                   subst (λ (t : ℕ). IsPutBack h.shape t (last_record h.shape (s.blocks mid) t) (s.blocks mid) (s.blocks new)) at
                   (subst (λ (u : UndoRecord). IsPutBack h.shape made.slot u (s.blocks mid) (s.blocks new)) (sym made.newest) made.group) in
                   let next : suc turn ≡ turn + 1 = omega arith in
-                  subst (λ (n : ℕ). BackOver h.shape (16 * x.seg + x.slot) n (s.blocks old) (s.blocks new)) next (back_more h.shape (16 * x.seg + x.slot) turn (s.blocks old) (s.blocks mid) (s.blocks new) left.back put);
+                  subst (λ (n : ℕ). BackOver h.shape (SLOTS * x.seg + x.slot) n (s.blocks old) (s.blocks new)) next (back_more h.shape (SLOTS * x.seg + x.slot) turn (s.blocks old) (s.blocks mid) (s.blocks new) left.back put);
               ages = aging.joined (segments_of h.shape (s.blocks old)) (segments_of h.shape (s.blocks mid)) (segments_of h.shape (s.blocks new)) left.ages (back_ages m xids (s.blocks mid) (s.blocks new) left.holds.blocks who front made);
             }
 
@@ -198,7 +200,7 @@ module _ {S : Type 0} (s : Ghosts S) where
             λ before keeps. subst (λ (z : State). Survives s (s.slots old) before h z old new) again
                 (survives_on s (s.slots old) h m (without_owner x.seg x.slot (ended m who cursors)) old mid new st.going (left.survives before keeps)
                 (subst (λ (k : Option ℕ). Survives s k before m (without_owner x.seg x.slot (ended m who cursors)) mid new) same.slots ((all before).1 keeps))),
-            (s.blocks mid, subst (λ (n : ℕ). BackOver h.shape (16 * x.seg + x.slot) n (s.blocks old) (s.blocks mid)) (sym whole) left.back, made.group),
+            (s.blocks mid, subst (λ (n : ℕ). BackOver h.shape (SLOTS * x.seg + x.slot) n (s.blocks old) (s.blocks mid)) (sym whole) left.back, made.group),
             aging.joined (segments_of h.shape (s.blocks old)) (segments_of h.shape (s.blocks mid)) (segments_of h.shape (s.blocks new)) left.ages (end_ages m xids (s.blocks mid) (s.blocks new) left.holds.blocks who x (id_left h xids who x [] count old mid left).owned made),
           )
       ends_all whole left false one = λ fault.
@@ -293,7 +295,7 @@ module _ {S : Type 0} (s : Ghosts S) where
           left.ids,
           (let n = left.lsn in omega (arith, n, is, count_is)),
           left.survives,
-          subst (λ (n : ℕ). BackOver h.shape (16 * x.seg + x.slot) n (s.blocks old) (s.blocks mid)) (is ∙ count_is) left.back,
+          subst (λ (n : ℕ). BackOver h.shape (SLOTS * x.seg + x.slot) n (s.blocks old) (s.blocks mid)) (is ∙ count_is) left.back,
           left.ages,
         )
 
@@ -325,14 +327,14 @@ module _ {S : Type 0} (s : Ghosts S) where
           id = id_kept h (with_own h who (take kept mine)) (env_of h.shape (s.blocks old)) (env_of h.shape (s.blocks mid)) who (Some x) refl p.1 st.id;
           lsn = let n = p.2 in let own = st.own in omega (arith, n, own);
           survives = p.3;
-          back = let n : length mine - kept ≡ count = let own = st.own in omega (arith, own) in subst (λ (k : ℕ). BackOver h.shape (16 * x.seg + x.slot) k (s.blocks old) (s.blocks mid)) n p.4;
+          back = let n : length mine - kept ≡ count = let own = st.own in omega (arith, own) in subst (λ (k : ℕ). BackOver h.shape (SLOTS * x.seg + x.slot) k (s.blocks old) (s.blocks mid)) n p.4;
           ages = p.5;
         };
   }
 
 -- The put backs of changes of a transaction, and its end.
 module _ {S : Type 0} (s : Ghosts S) (told : s.tells) (laws : Laws s) (h : State) (old : EngineView S) (who : ℕ) (x : Xid) (st : Stands s h old) (going : h.stopped ≡ false)
-    (there : (1 ≤ who) × (who ≤ 16)) (own_is : (kept_at old.memory.sessions who).own ≡ Some x) where
+    (there : (1 ≤ who) × (who ≤ SESSIONS)) (own_is : (kept_at old.memory.sessions who).own ≡ Some x) where
   abbrev pub held : Goes s h old
   held = goes s told laws h old who x st going there own_is
 

@@ -3,6 +3,7 @@ use Rattle.std.proofs.Common.{◌≡◌, ◌≢◌, inl, inr, ◌<◌, ◌≤◌
 use Rattle.std.proofs.lemmas.Bool.{cases_eq, cond_both, ne_eqb}
 use Rattle.std.proofs.lemmas.Nat.{mod-mul-add}
 use Rattle.std.specs.List.{range_with_len}
+use Rattle.rb_base.specs.declared.sizes.TheConstants.{SLOTS}
 use Rattle.rb_base.specs.declared.ids.Xid.{Xid}
 use Rattle.rb_base.specs.declared.shape.Shape.{Shape}
 use Rattle.rb_model.specs.Book.{Owner}
@@ -126,7 +127,7 @@ seen_in_home h xids blocks m g k v some lt is = elim (cases_eq (k % h.shape.bloc
       let base : rows_here h.shape b h.commits.rows k ≡ None = Rattle.std.proofs.lemmas.Bool.cond-false ((k % B) == (b % B)) _ None (ne_eqb (k % B) (b % B) apart) in
       let list : List Commit = map (narrow b) (past_of h xids).list in
       let none : rows_seen h xids blocks m g k ≡ None =
-      mine_off m.own m.upto k (own (map (here b) (lives_of h (env_of h.shape blocks))) (reader_slot m.own)) (behind_mine m.own m.upto (flat m.scn list) (rows_at m.scn (rows_here h.shape b h.commits.rows) list)) (off_lives B b k apart h (env_of h.shape blocks) refl some (range_with_len 0 (16 * h.shape.segments)) (reader_slot m.own))
+      mine_off m.own m.upto k (own (map (here b) (lives_of h (env_of h.shape blocks))) (reader_slot m.own)) (behind_mine m.own m.upto (flat m.scn list) (rows_at m.scn (rows_here h.shape b h.commits.rows) list)) (off_lives B b k apart h (env_of h.shape blocks) refl some (range_with_len 0 (SLOTS * h.shape.segments)) (reader_slot m.own))
       ∙ (mine_off m.own m.upto k (flat m.scn list) (rows_at m.scn (rows_here h.shape b h.commits.rows) list) (off_flat B b k apart m.scn (past_of h xids).list commits)
       ∙ (rows_at_off B b k apart m.scn (rows_here h.shape b h.commits.rows) (past_of h xids).list commits ∙ base)) in
       let clash : None ≡ Some v = sym none ∙ is in

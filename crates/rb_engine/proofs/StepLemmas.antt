@@ -5,6 +5,8 @@ use Rattle.std.proofs.lemmas.List.{get_or-set_same, get_or-set_other, length-set
 use Rattle.std.proofs.lemmas.List.Sums.{sum_by-cons, sum_by-set}
 use Rattle.std.specs.List.{AllByRecursion}
 use Rattle.std.specs.Str.{bytes_eq}
+use Rattle.rb_base.specs.declared.sizes.TheConstants.{SLOTS}
+use Rattle.rb_sessions.specs.declared.sessions.TheConstants.{SESSIONS}
 use Rattle.rb_base.specs.declared.ids.Xid.{Xid}
 use Rattle.rb_base.specs.declared.shape.Shape.{Shape}
 use Rattle.rb_base.specs.declared.store.Store.{Ghosts}
@@ -65,17 +67,17 @@ owed_few (x ∷ l) small =
 -- one session's part of what is in order
 pub record IsFit (shape : Shape) (k : KeptSession) : Type 0 where
   pub tables : InTables shape k
-  pub own : (x : Xid) → k.own ≡ Some x → (x.seg < shape.segments) × (x.slot < 16)
+  pub own : (x : Xid) → k.own ≡ Some x → (x.seg < shape.segments) × (x.slot < SLOTS)
   pub small : k.count < 2 ^ 32
   pub idle : k.own ≡ None → k.count ≡ 0
 
 pub fit_at : {S : Type 0} (s : Ghosts S) (kept : Kept) (store : S) → IsInStep s kept store → (u : ℕ) → IsFit (s.shape_of store) (kept_at kept.sessions u)
 fit_at s kept store is u = record { tables = is.tables u; own = is.own u; small = is.small u; idle = is.idle u }
 
-pub fit_wrote : (shape : Shape) (x : Xid) (k : KeptSession) → IsFit shape k → (x.seg < shape.segments) × (x.slot < 16) → IsFit shape (wrote x k)
+pub fit_wrote : (shape : Shape) (x : Xid) (k : KeptSession) → IsFit shape k → (x.seg < shape.segments) × (x.slot < SLOTS) → IsFit shape (wrote x k)
 fit_wrote shape x k fit here = record {
   tables = fit.tables;
-  own = λ y is. let same : x ≡ y = cc in subst (λ (z : Xid). (z.seg < shape.segments) × (z.slot < 16)) same here;
+  own = λ y is. let same : x ≡ y = cc in subst (λ (z : Xid). (z.seg < shape.segments) × (z.slot < SLOTS)) same here;
   small = omega arith;
   idle = λ none. (let clash : Some x ≡ None = none in absurd cc);
 }
@@ -136,7 +138,7 @@ module _ {S : Type 0} (s : Ghosts S) where
         record {
           counted = ap (λ (l : List KeptSession). length l) same ∙ is.counted;
           tables = λ u. subst (λ (h : Shape). InTables h (kept_at now.sessions u)) (sym shape) (subst (InTables (s.shape_of old)) (sym (at u)) (is.tables u));
-          own = λ u x mine. subst (λ (h : Shape). (x.seg < h.segments) × (x.slot < 16)) (sym shape) (is.own u x (ap (λ (k : KeptSession). k.own) (sym (at u)) ∙ mine));
+          own = λ u x mine. subst (λ (h : Shape). (x.seg < h.segments) × (x.slot < SLOTS)) (sym shape) (is.own u x (ap (λ (k : KeptSession). k.own) (sym (at u)) ∙ mine));
           small = λ u. let same_count = ap (λ (k : KeptSession). k.count) (at u) in let less = is.small u in omega (arith, same_count, less);
           idle = λ u none. ap (λ (k : KeptSession). k.count) (at u) ∙ is.idle u (ap (λ (k : KeptSession). k.own) (sym (at u)) ∙ none);
           queue = queue;
@@ -165,7 +167,7 @@ module _ {S : Type 0} (s : Ghosts S) where
         by (inr as_before) on = let sum = ap owed_kept same in let before = is.few on in omega (arith, as_before, sum, before)
 
     -- Session u of the table is another one.
-    module _ (u : ℕ) (there : (1 ≤ u) × (u ≤ 16)) (k : KeptSession) (fit : IsFit (s.shape_of old) k) (moved : now.sessions ≡ with_kept kept.sessions u k) where
+    module _ (u : ℕ) (there : (1 ≤ u) × (u ≤ SESSIONS)) (k : KeptSession) (fit : IsFit (s.shape_of old) k) (moved : now.sessions ≡ with_kept kept.sessions u k) where
       within : u - 1 < length kept.sessions
       within = omega (arith, there, is.counted)
 

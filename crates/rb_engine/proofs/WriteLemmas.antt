@@ -1,5 +1,7 @@
 -- What a write of a session does with the state, from the group of its step.
 use Rattle.std.proofs.Common.{◌≡◌, ◌≢◌, ◌≤◌, ◌+◌, ◌/◌, ◌%◌, ◌&&◌, ℕ, Bool, true, false, not, nat_le, List, [], ◌∷◌, ◌++◌, length, map, set, if◌then◌else◌, ◌-◌, Option, Some, None, Result, Ok, Err, IfErr, IfOk, refl, sym, ◌∙◌, ap, subst, arith}
+use Rattle.rb_base.specs.declared.sizes.TheConstants.{SLOTS}
+use Rattle.rb_sessions.specs.declared.sessions.TheConstants.{SESSIONS}
 use Rattle.rb_engine.proofs.CopyLemmas.{copies_same, copies_written}
 use Rattle.std.proofs.lemmas.List.{length-set}
 use Rattle.std.proofs.lemmas.Bool.Decides.{nat_tests}
@@ -71,11 +73,11 @@ few_group [] = omega arith
 few_group (p ∷ patches) = omega arith
 
 -- the session's id in the table is that of its slot
-pub own_id : {S : Type 0} (s : Ghosts S) (h : State) (old : EngineView S) (goes : Goes s h old) (who : ℕ) → (1 ≤ who) × (who ≤ 16) → IsOwnId h (env_of h.shape (s.blocks old.store)) who (kept_at old.memory.sessions who).own
+pub own_id : {S : Type 0} (s : Ghosts S) (h : State) (old : EngineView S) (goes : Goes s h old) (who : ℕ) → (1 ≤ who) × (who ≤ SESSIONS) → IsOwnId h (env_of h.shape (s.blocks old.store)) who (kept_at old.memory.sessions who).own
 own_id s h old goes who there = (goes.remembers.each who there.0 there.1).id
 
 module _ {S : Type 0} (s : Ghosts S) (told : s.tells) (laws : Laws s) (h : State) (old : EngineView S) (st : Stands s h old) (going : h.stopped ≡ false) (who table key : ℕ) (action : Action)
-    (there : (1 ≤ who) × (who ≤ 16)) (early : none_applies (early_tests h (Write who table key action)) ≡ true) where
+    (there : (1 ≤ who) × (who ≤ SESSIONS)) (early : none_applies (early_tests h (Write who table key action)) ≡ true) where
   abbrev pub goes : Goes s h old
   goes = st.goes going
 
@@ -196,7 +198,7 @@ module _ {S : Type 0} (s : Ghosts S) (told : s.tells) (laws : Laws s) (h : State
       step_waited (Err why) asked is ring waits = subst (λ (x : Refusal). Does s h (Write who table key action) (Refused x) old new) (sym ring.0) (step_ring ring.1 ring.2)
 
 -- The engine stays in order as a session begins to wait, or is refused.
-module _ {S : Type 0} (s : Ghosts S) (kept now : Kept) (old new : S) (is : IsInStep s kept old) (going : kept.stopped ≡ false) (logs : Logs s old new [] true) (who u : ℕ) (there : (1 ≤ who) × (who ≤ 16)) (free : is_queued who kept.waits ≡ false)
+module _ {S : Type 0} (s : Ghosts S) (kept now : Kept) (old new : S) (is : IsInStep s kept old) (going : kept.stopped ≡ false) (logs : Logs s old new [] true) (who u : ℕ) (there : (1 ≤ who) × (who ≤ SESSIONS)) (free : is_queued who kept.waits ≡ false)
     (asked : Asked) where
   waits_in_step : now ≡ record kept { sessions = with_kept kept.sessions who (holding asked (kept_at kept.sessions who)); waits = waiting who u kept.waits } → IsInStep s now new
   waits_in_step memory =
@@ -219,20 +221,20 @@ module _ {S : Type 0} (s : Ghosts S) (kept now : Kept) (old new : S) (is : IsInS
 
 -- Some session in the table has the id of the transaction that holds a key.
 module _ (h : State) (xids : List Xid) (blocks : List (List ℕ)) (sessions : List KeptSession) (knows : Remembers h xids (env_of h.shape blocks) sessions) (table key : ℕ) (x : Xid) (held : IsHolder h (env_of h.shape blocks) table key (Some x)) where
-  pub holder_there : BlocksStand h xids blocks → length h.sessions ≡ 16 → ((u : ℕ) → 1 ≤ u → u ≤ 16 → (kept_at sessions u).own ≢ Some x) → ⊥
+  pub holder_there : BlocksStand h xids blocks → length h.sessions ≡ SESSIONS → ((u : ℕ) → 1 ≤ u → u ≤ SESSIONS → (kept_at sessions u).own ≢ Some x) → ⊥
   holder_there stand sixteen none =
       let range = stand.tell.owner_there held.0 held.1 held.3 in
       let up : held.0 ≤ 16 = omega (arith, range.1, sixteen) in
       none held.0 range.0 up ((knows.each held.0 range.0 up).id.owns held.1 held.3 ∙ ap (λ (y : Xid). Some y) (sym held.4))
 
   -- and no other one has it
-  pub holder_only : (u : ℕ) → 1 ≤ u → u ≤ 16 → (kept_at sessions u).own ≡ Some x → held.0 ≡ u
+  pub holder_only : (u : ℕ) → 1 ≤ u → u ≤ SESSIONS → (kept_at sessions u).own ≡ Some x → held.0 ≡ u
   holder_only u low high own =
       let mine = (knows.each u low high).id.owned x own in
-      let a : x.seg ≡ held.1 / 16 = ap (λ (y : Xid). y.seg) held.4 in
-      let b : x.slot ≡ held.1 % 16 = ap (λ (y : Xid). y.slot) held.4 in
-      let d : x.seg ≡ mine.0 / 16 = ap (λ (y : Xid). y.seg) mine.2 in
-      let e : x.slot ≡ mine.0 % 16 = ap (λ (y : Xid). y.slot) mine.2 in
+      let a : x.seg ≡ held.1 / SLOTS = ap (λ (y : Xid). y.seg) held.4 in
+      let b : x.slot ≡ held.1 % SLOTS = ap (λ (y : Xid). y.slot) held.4 in
+      let d : x.seg ≡ mine.0 / SLOTS = ap (λ (y : Xid). y.seg) mine.2 in
+      let e : x.slot ≡ mine.0 % SLOTS = ap (λ (y : Xid). y.slot) mine.2 in
       let slot : held.1 ≡ mine.0 = omega (arith, a, b, d, e) in
       let one : held.3.owner ≡ mine.1.owner = same_owner held.3.owner mine.1.owner (sym held.3.at ∙ (ap (owner_at h) slot ∙ mine.1.at)) in
       sym held.3.session ∙ (ap (λ (o : Owner). o.session) one ∙ mine.1.session)

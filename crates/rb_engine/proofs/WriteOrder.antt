@@ -1,6 +1,7 @@
 -- The tests of a write in their order, and the write behind them: those that come first only load blocks.
 use Rattle.std.proofs.Common.{◌≡◌, ◌≤◌, ⊎_elim, ℕ, Bool, true, false, not, List, [], length, Option, None, Some, Result, Ok, Err, IfErr, IfOk, refl, sym, ◌∙◌, ap, subst, arith}
 use Rattle.std.proofs.lemmas.Bool.{cases_Bool, false≢true}
+use Rattle.rb_sessions.specs.declared.sessions.TheConstants.{SESSIONS}
 use Rattle.rb_write.specs.Refusals.{has_failed}
 use Rattle.rb_write.specs.declared.ask.AttemptFault.{AttemptFault}
 use Rattle.rb_base.specs.Logs.{Laws, Logs}
@@ -47,7 +48,7 @@ pub stops_before : (kept mid now : Kept) (fault : Bool) → mid ≡ kept → Sto
 stops_before kept mid now fault same stops = subst (λ (k : Kept). StopsIf fault k now) same stops
 
 module _ {S : Type 0} (s : Ghosts S) (told : s.tells) (laws : Laws s) (h : State) (kept : Kept) (old : S) (st : Stands s h (record { memory = kept; store = old })) (on : h.stopped ≡ false) (who table key : ℕ) (action : Action)
-    (there : (1 ≤ who) × (who ≤ 16)) (early : none_applies (early_tests h (Write who table key action)) ≡ true) where
+    (there : (1 ≤ who) × (who ≤ SESSIONS)) (early : none_applies (early_tests h (Write who table key action)) ≡ true) where
   abbrev View : EngineView S
   View = record { memory = kept; store = old }
 
@@ -146,7 +147,7 @@ module _ {S : Type 0} (s : Ghosts S) (told : s.tells) (laws : Laws s) (h : State
         -- or refused, or a call of the store failed
         pub unmade_did : (fault : AttemptFault) (why : Refusal) → why ≡ refusal_of fault → StopsIf (is_disk_fault why) mid.memory new.memory
             → (has_failed {T = Xid} (Err fault) ≡ true → AsLogged (λ xids. (x : Xid) × Gives false x xids))
-            → (has_failed {T = Xid} (Err fault) ≡ false → AsStep (λ xids. length h.sessions ≤ 16 → (x : Xid) × WritesIn h who x.seg x.slot × (first_of (write_tests h (s.lsn mid.store) x.seg x.slot who table key action) Done ≡ Refused (refusal_of fault))))
+            → (has_failed {T = Xid} (Err fault) ≡ false → AsStep (λ xids. length h.sessions ≤ SESSIONS → (x : Xid) × WritesIn h who x.seg x.slot × (first_of (write_tests h (s.lsn mid.store) x.seg x.slot who table key action) Done ≡ Refused (refusal_of fault))))
             → (has_failed {T = Xid} (Err fault) ≡ false → Logs s mid.store new.store [] true) → Does s h (Write who table key action) (Refused why) View new
         unmade_did fault why is stops failed refused unchanged =
             let call = Write who table key action in
@@ -158,7 +159,7 @@ module _ {S : Type 0} (s : Ghosts S) (told : s.tells) (laws : Laws s) (h : State
             subst (λ (w : Refusal). Does s h call (Refused w) mid new) (sym (is ∙ the_failure fault fails))
             (step_failed s told laws h mid Mid on who table key action there early new stays one.0 one.1 (subst (λ (b : Bool). StopsIf b mid.memory new.memory) (ap is_disk_fault is ∙ fails) stops)))
             (λ (other : is_disk_fault (refusal_of fault) ≡ false).
-            let why_not = at_step (λ xids. length h.sessions ≤ 16 → (x : Xid) × WritesIn h who x.seg x.slot × (first_of (write_tests h (s.lsn mid.store) x.seg x.slot who table key action) Done ≡ Refused (refusal_of fault))) (refused (sym kind ∙ other)) (let sixteen = st.knows.sixteen in omega (arith, sixteen)) in
+            let why_not = at_step (λ xids. length h.sessions ≤ SESSIONS → (x : Xid) × WritesIn h who x.seg x.slot × (first_of (write_tests h (s.lsn mid.store) x.seg x.slot who table key action) Done ≡ Refused (refusal_of fault))) (refused (sym kind ∙ other)) (let sixteen = st.knows.sixteen in omega (arith, sixteen)) in
             subst (λ (w : Refusal). Does s h call (Refused w) mid new) (sym is)
             (step_refused s told laws h mid Mid on who table key action there early new stays (refusal_of fault) other why_not.0 why_not.1 why_not.2
             (subst (λ (b : Bool). StopsIf b mid.memory new.memory) (ap is_disk_fault is ∙ other) stops) (unchanged (sym kind ∙ other))))

@@ -1,6 +1,9 @@
 -- What bytes written over a block make of its home, and what a patch leaves of the head in front.
 use Rattle.std.proofs.Common.{◌≡◌, ◌≢◌, ℕ, ◌+◌, ◌*◌, ◌<◌, List, length, take, drop, refl, arith, ap, sym, ◌∙◌, inl, inr, slice_index}
 use Rattle.std.proofs.lemmas.List.{drop-drop}
+use Rattle.rb_itl.specs.declared.slots.TheConstants.{ENTRIES, ENTRY_BYTES}
+use Rattle.rb_cell.specs.declared.cell.TheConstants.{CELLS, CELL_BYTES}
+use Rattle.rb_base.specs.declared.sizes.TheConstants.{BLOCK_HEAD, UNIT}
 use Rattle.rb_base.specs.Blocks.{patched, behind_head}
 use Rattle.rb_base.specs.Fields.{part, number_at}
 use Rattle.rb_base.specs.Groups.{Patch, IsPatch}
@@ -16,45 +19,45 @@ use Rattle.rb_base.proofs.Listed.{listed_same, listed_set}
 use Rattle.rb_heap.proofs.Reading.{cell_read}
 
 -- A home is read behind the head alone.
-pub read_behind : (one other : List ℕ) (at more count : ℕ) → at ≡ 32 + more → behind_head one ≡ behind_head other → part one at count ≡ part other at count
-read_behind one other at more count split same = rw split (ap (take count) (sym (drop-drop more 32 one) ∙ ap (drop more) same ∙ drop-drop more 32 other))
+pub read_behind : (one other : List ℕ) (at more count : ℕ) → at ≡ BLOCK_HEAD + more → behind_head one ≡ behind_head other → part one at count ≡ part other at count
+read_behind one other at more count split same = rw split (ap (take count) (sym (drop-drop more BLOCK_HEAD one) ∙ ap (drop more) same ∙ drop-drop more BLOCK_HEAD other))
 
 pub same_behind : (one other : List ℕ) → behind_head one ≡ behind_head other → home_of one ≡ home_of other
 unfolding home_of
 same_behind one other same =
-    let entries = listed_same (entry_at one) (entry_at other) 8 free_entry (λ i few. ap entry_of (read_behind one other (entry_place i) (48 * i) 48 refl same)) in
-    let cells = listed_same (cell_at one) (cell_at other) 16 empty_cell (λ c few. ap cell_of (read_behind one other (cell_place c) (384 + 92 * c) 92 (omega arith) same)) in
+    let entries = listed_same (entry_at one) (entry_at other) ENTRIES free_entry (λ i few. ap entry_of (read_behind one other (entry_place i) (ENTRY_BYTES * i) ENTRY_BYTES refl same)) in
+    let cells = listed_same (cell_at one) (cell_at other) CELLS empty_cell (λ c few. ap cell_of (read_behind one other (cell_place c) (384 + CELL_BYTES * c) CELL_BYTES (omega arith) same)) in
     rw (entries, cells) refl
 
 -- where a cell alone was written
-set_cell : (one other : List ℕ) (c : ℕ) (cell : Cell) → c < 16 → ((i : ℕ) → i < 8 → entry_at one i ≡ entry_at other i) → cell_at one c ≡ cell → ((k : ℕ) → k < 16 → k ≢ c → cell_at one k ≡ cell_at other k) → home_of one ≡ with_home_cell (home_of other) c cell
+set_cell : (one other : List ℕ) (c : ℕ) (cell : Cell) → c < CELLS → ((i : ℕ) → i < ENTRIES → entry_at one i ≡ entry_at other i) → cell_at one c ≡ cell → ((k : ℕ) → k < CELLS → k ≢ c → cell_at one k ≡ cell_at other k) → home_of one ≡ with_home_cell (home_of other) c cell
 unfolding home_of
 set_cell one other c cell few same there others =
-    rw (listed_same (entry_at one) (entry_at other) 8 free_entry same, listed_set (cell_at one) (cell_at other) 16 c cell empty_cell few there others) refl
+    rw (listed_same (entry_at one) (entry_at other) ENTRIES free_entry same, listed_set (cell_at one) (cell_at other) CELLS c cell empty_cell few there others) refl
 
-pub cell_written : (block : List ℕ) (c : ℕ) (cell : Cell) → length block ≡ 2048 → c < 16 → IsCell cell → home_of (with_cell block c cell) ≡ with_home_cell (home_of block) c cell
+pub cell_written : (block : List ℕ) (c : ℕ) (cell : Cell) → length block ≡ UNIT → c < CELLS → IsCell cell → home_of (with_cell block c cell) ≡ with_home_cell (home_of block) c cell
 cell_written block c cell long few sound =
     set_cell (with_cell block c cell) block c cell few
-    (λ i lt. ap entry_of (cell_outside block c (entry_place i) 48 cell long few sound (inl (omega arith))))
+    (λ i lt. ap entry_of (cell_outside block c (entry_place i) ENTRY_BYTES cell long few sound (inl (omega arith))))
     (cell_there block c cell long few sound) (λ k lt differ. cell_others block c k cell long few sound differ)
 
-pub lock_written : (block : List ℕ) (c lock : ℕ) → length block ≡ 2048 → c < 16 → home_of (with_lock block c lock) ≡ with_home_lock (home_of block) c lock
+pub lock_written : (block : List ℕ) (c lock : ℕ) → length block ≡ UNIT → c < CELLS → home_of (with_lock block c lock) ≡ with_home_lock (home_of block) c lock
 lock_written block c lock long few =
     let there = lock_there block c lock long few ∙ ap (λ (x : Cell). locked_by x lock) (sym (cell_read block c empty_cell few)) in
     set_cell (with_lock block c lock) block c (locked_by (home_cell (home_of block) c) lock) few
-    (λ i lt. ap entry_of (lock_outside block c (entry_place i) 48 lock long few (inl (omega arith))))
+    (λ i lt. ap entry_of (lock_outside block c (entry_place i) ENTRY_BYTES lock long few (inl (omega arith))))
     there (λ k lt differ. lock_others block c k lock long few differ)
 
-pub entry_written : (block : List ℕ) (i : ℕ) (entry : Entry) → length block ≡ 2048 → i < 8 → IsEntry entry → home_of (with_entry block i entry) ≡ with_home_entry (home_of block) i entry
+pub entry_written : (block : List ℕ) (i : ℕ) (entry : Entry) → length block ≡ UNIT → i < ENTRIES → IsEntry entry → home_of (with_entry block i entry) ≡ with_home_entry (home_of block) i entry
 unfolding home_of
 entry_written block i entry long few sound =
     let after = with_entry block i entry in
     let entries = listed_set (entry_at after) (entry_at block) 8 i entry free_entry few (own_read block i entry long few sound) (λ k lt differ. others_kept block i k entry long few lt differ) in
-    let cells = listed_same (cell_at after) (cell_at block) 16 empty_cell (λ c lt. ap cell_of (entry_kept_outside block i (cell_place c) 92 entry long few (inr (omega arith)))) in
+    let cells = listed_same (cell_at after) (cell_at block) CELLS empty_cell (λ c lt. ap cell_of (entry_kept_outside block i (cell_place c) CELL_BYTES entry long few (inr (omega arith)))) in
     rw (entries, cells) refl
 
 -- a patch leaves the head behind the number
-module _ (block : List ℕ) (number : ℕ) (p : Patch) (long : length block ≡ 2048) (is : IsPatch p) where
+module _ (block : List ℕ) (number : ℕ) (p : Patch) (long : length block ≡ UNIT) (is : IsPatch p) where
   pub kind_patched : slice_index (patched number p block) 8 ≡ slice_index block 8
   kind_patched = byte_kept block number (length p.bytes) p long is.within_block refl 8 (omega arith) (inl (omega (arith, is.behind_head)))
 

@@ -3,6 +3,8 @@ use Rattle.std.proofs.Common.{ℕ, ◌^◌, ◌<◌, List, length, take, drop, a
 use Rattle.std.proofs.lemmas.Bool.{cases_lt}
 use Rattle.std.proofs.lemmas.List.{length-take, length-drop, get_or-take, get_or_past}
 use Rattle.std.specs.List.{All}
+use Rattle.rb_itl.specs.declared.slots.TheConstants.{ENTRY_BYTES}
+use Rattle.rb_cell.specs.declared.cell.TheConstants.{CELL_BYTES, HEAD_BYTES}
 use Rattle.rb_base.specs.Fields.{part, number_at}
 use Rattle.rb_base.proofs.Fronts.{IsBytes, IsBytes-drop}
 use Rattle.rb_cell.specs.Cells.{cell_place, cell_at, IsCell}
@@ -38,17 +40,17 @@ eight_fit bytes at is = let h = IsBytes-drop at bytes is in omega (arith, h 0, h
 
 cell_fits : (block : List ℕ) (c : ℕ) → IsBytes block → IsCell (cell_at block c)
 cell_fits block c is =
-    let bytes = part block (cell_place c) 92 in
-    let value = drop 12 bytes in
+    let bytes = part block (cell_place c) CELL_BYTES in
+    let value = drop HEAD_BYTES bytes in
     record {
-      key_fits = eight_fit bytes 4 (IsBytes-part block (cell_place c) 92 is);
-      short_value = omega (arith, length-take (number_at bytes 2 2) value, length-drop 12 bytes, length-take 92 (drop (cell_place c) block));
+      key_fits = eight_fit bytes 4 (IsBytes-part block (cell_place c) CELL_BYTES is);
+      short_value = omega (arith, length-take (number_at bytes 2 2) value, length-drop HEAD_BYTES bytes, length-take CELL_BYTES (drop (cell_place c) block));
     }
 
 entry_fits : (block : List ℕ) (i : ℕ) → IsBytes block → IsEntry (entry_at block i)
 entry_fits block i is =
-    let bytes = part block (entry_place i) 48 in
-    let h = IsBytes-part block (entry_place i) 48 is in
+    let bytes = part block (entry_place i) ENTRY_BYTES in
+    let h = IsBytes-part block (entry_place i) ENTRY_BYTES is in
     record {
       kind = h 0;
       seg = two_fit bytes 4 h;

@@ -6,7 +6,7 @@ use Rattle.std.proofs.lemmas.List.{take-append-drop, take-set, drop-set, drop_mo
 use Rattle.std.proofs.lemmas.List.Elements.{All-nil, All-cons, All-append, All-set}
 use Rattle.std.specs.List.{All}
 use Rattle.rb_cell.specs.declared.cell.Cell.{Cell}
-use Rattle.rb_cell.specs.declared.cell.TheConstants.{ROW}
+use Rattle.rb_cell.specs.declared.cell.TheConstants.{CELLS, ROW}
 use Rattle.rb_cell.specs.Cells.{locked_by, IsCell}
 use Rattle.rb_itl.specs.declared.slots.Entry.{Entry}
 use Rattle.rb_itl.specs.Entries.{IsEntry}
@@ -90,5 +90,5 @@ rows_unkeyed (cell ∷ cells) key none =
     (row_unkeyed (cell.state == ROW) (not (cell.lock == 0)) cell key (none 0 (omega arith)))
     (rows_unkeyed cells key (λ k lt. none (suc k) (omega arith)))
 
-pub none_keyed : (home : Home) (key : ℕ) → length home.cells ≡ 16 → IsNowhere (is_keyed key) home.cells → All (λ (r : CellRow). r.key ≢ key) (home_rows home)
+pub none_keyed : (home : Home) (key : ℕ) → length home.cells ≡ CELLS → IsNowhere (is_keyed key) home.cells → All (λ (r : CellRow). r.key ≢ key) (home_rows home)
 none_keyed home key count none = rows_unkeyed home.cells key (λ k lt. none k (omega arith))

@@ -1,6 +1,8 @@
 -- An entry that was written over a block's bytes.
 use Rattle.std.proofs.Common.{◌≡◌, ◌+◌, ◌≤◌, drop, refl, arith, ap, sym, ◌∙◌, inr}
 use Rattle.std.proofs.lemmas.List.{take_all, length-drop}
+use Rattle.rb_itl.specs.declared.slots.TheConstants.{ENTRY_BYTES}
+use Rattle.rb_base.specs.declared.sizes.TheConstants.{BLOCK_HEAD}
 use Rattle.byteorder.specs.Numbers.{big_number-reads_back}
 use Rattle.rb_base.proofs.Apart.{places_apart}
 use Rattle.rb_base.proofs.Overwriting.{length-overwritten, part_written, part_apart}
@@ -8,11 +10,11 @@ use Rattle.rb_base.specs.Fields.{number_at}
 use Rattle.rb_itl.specs.Entries.{entry_place, entry_bytes, entry_of, with_entry, ReadsOwn, KeepsOthers, KeepsOutside, KeepsCells, KeepsLength, ReadsBack}
 
 pub entry_kept_outside : KeepsOutside
-entry_kept_outside block i at count e long lt side = part_apart block (entry_place i) (entry_bytes e) at count 48 (omega (arith, long)) refl side
+entry_kept_outside block i at count e long lt side = part_apart block (entry_place i) (entry_bytes e) at count ENTRY_BYTES (omega (arith, long)) refl side
 
 pub others_kept : KeepsOthers
 others_kept block i j e long lt lt_too other =
-    ap entry_of (entry_kept_outside block i (entry_place j) 48 e long lt (places_apart 32 48 i j other))
+    ap entry_of (entry_kept_outside block i (entry_place j) ENTRY_BYTES e long lt (places_apart BLOCK_HEAD ENTRY_BYTES i j other))
 
 pub length_kept : KeepsLength
 length_kept block i e long lt = length-overwritten block (entry_place i) (entry_bytes e) (omega (arith, long)) ∙ long
@@ -38,4 +40,4 @@ read_back e h =
     rw (seg, slot, wrap, number, block, rec, ord, length) refl
 
 pub own_read : ReadsOwn
-own_read block i e long lt fits = ap entry_of (part_written block (entry_place i) (entry_bytes e) 48 (omega (arith, long)) refl) ∙ read_back e fits
+own_read block i e long lt fits = ap entry_of (part_written block (entry_place i) (entry_bytes e) ENTRY_BYTES (omega (arith, long)) refl) ∙ read_back e fits

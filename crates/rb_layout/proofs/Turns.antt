@@ -1,5 +1,5 @@
 -- Two extents written over zeros are those of a new segment.
-use Rattle.std.proofs.Common.{◌≡◌, ℕ, List, replicate, ap}
+use Rattle.std.proofs.Common.{◌-◌, ◌≡◌, ℕ, List, replicate, ap}
 use Rattle.rb_base.specs.declared.sizes.TheConstants.{BLOCK_HEAD, UNIT}
 use Rattle.rb_base.specs.Blocks.{fresh_segment}
 use Rattle.rb_base.specs.Fields.{with_number}

@@ -1,5 +1,6 @@
 -- A header in order passes, by its bytes, the tests of an opening.
 use Rattle.std.proofs.Common.{◌≡◌, ◌<◌, ℕ, List, sym, ◌∙◌, ap, subst, arith}
+use Rattle.rb_ring.specs.declared.extents.TheConstants.{EXTENTS}
 use Rattle.rb_ring.specs.Ring.{extent_ord, IsRing}
 use Rattle.rb_ring.specs.declared.extents.Extent.{Extent}
 use Rattle.rb_segment.proofs.Parts.{extent_read, ring_read, slot_read}
@@ -8,7 +9,7 @@ use Rattle.rb_sound.specs.Sound.{IsSegment}
 use Rattle.rb_txntable.specs.declared.slots.TableSlot.{TableSlot}
 
 -- a ring by numbers that are the same at each extent
-ring_alike : (ord other : ℕ → ℕ) (head k : ℕ) → ((e : ℕ) → e < 8 → other e ≡ ord e) → IsRing ord head k → IsRing other head k
+ring_alike : (ord other : ℕ → ℕ) (head k : ℕ) → ((e : ℕ) → e < EXTENTS → other e ≡ ord e) → IsRing ord head k → IsRing other head k
 ring_alike ord other head k same is =
     let most = is.few.1 in
     let newest : other head ≡ ord head = same head (omega (arith, most, is.head_within)) in
@@ -27,7 +28,7 @@ ring_alike ord other head k same is =
 pub segment_sound : (commit : ℕ) (block : List ℕ) → HeaderInOrder commit (header_of block) → IsSegment commit block
 segment_sound commit block order =
     let read = ring_read block in
-    let ords = λ (e : ℕ) (few : e < 8). ap (λ (x : Extent). x.ord) (sym (extent_read block e few)) in
+    let ords = λ (e : ℕ) (few : e < EXTENTS). ap (λ (x : Extent). x.ord) (sym (extent_read block e few)) in
     record {
       ring = (order.ring.0, subst (λ (head : ℕ). IsRing (extent_ord block) head order.ring.0) read.0 (ring_alike (ord_in (header_of block)) (extent_ord block) (header_of block).head order.ring.0 ords order.ring.1));
       records = omega (arith, read.1, order.records);

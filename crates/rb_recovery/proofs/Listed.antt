@@ -1,6 +1,10 @@
 -- Live records that are listed make a chain, as an opening tests it.
 use Rattle.std.proofs.Common.{◌≡◌, ◌<◌, ◌+◌, ◌-◌, ◌*◌, ◌/◌, ◌%◌, ℕ, suc, List, [], ◌∷◌, length, get_or, Option, Some, None, refl, sym, ◌∙◌, ap, subst, arith}
 use Rattle.std.proofs.Math.Nat.{div-add-mod, mod-lt}
+use Rattle.rb_undoblock.specs.declared.record.TheConstants.{UNDO_RECORDS}
+use Rattle.rb_ring.specs.declared.extents.TheConstants.{EXTENT_RECORDS}
+use Rattle.rb_itl.specs.declared.slots.TheConstants.{ENTRIES}
+use Rattle.rb_cell.specs.declared.cell.TheConstants.{CELLS}
 use Rattle.rb_base.specs.Blocks.{header_block, table_blocks}
 use Rattle.rb_base.specs.declared.ids.Uba.{Uba}
 use Rattle.rb_base.specs.declared.ids.Xid.{Xid}
@@ -22,11 +26,11 @@ use Rattle.law_home.specs.Walk.{Change}
 joined : (a b c : ℕ) → a + (b + c) ≡ a + b + c
 joined a b c = omega arith
 
-forty : 0 < 40
+forty : 0 < EXTENT_RECORDS
 forty = omega arith
 
 -- The segment's head and its records tell how many were made.
-module _ (shape : Shape) (s : Segment) (x : Xid) (count : s.header.writes + 80 ≡ 40 * head_turn s.header + s.header.records) where
+module _ (shape : Shape) (s : Segment) (x : Xid) (count : s.header.writes + 2 * EXTENT_RECORDS ≡ EXTENT_RECORDS * head_turn s.header + s.header.records) where
   -- where a record is found, an extent has its turn
   turn_kept : (position : ℕ) (r : UndoRecord) (o : Option ℕ) → undo_in s.undo position o ≡ Some r → (e : ℕ) × (o ≡ Some e)
   turn_kept position r None is = let none : None ≡ Some r = is in absurd (cc)
@@ -36,7 +40,7 @@ module _ (shape : Shape) (s : Segment) (x : Xid) (count : s.header.writes + 80 �
     abbrev D : ℕ
     D = at.block - header_block shape x.seg - 1
 
-    tells : (turn_of k ≡ at.ord) × (position_of k ≡ 10 * (D % 4) + at.rec)
+    tells : (turn_of k ≡ at.ord) × (position_of k ≡ UNDO_RECORDS * (D % 4) + at.rec)
     tells = place_turn shape x.seg D k at (omega (arith, a.behind)) (omega (arith, a.behind, a.within)) a.rec a.first place
 
     kept : (e : ℕ) × (extent_with s.header.extents at.ord ≡ Some e)
@@ -57,18 +61,18 @@ module _ (shape : Shape) (s : Segment) (x : Xid) (count : s.header.writes + 80 �
       made = λ head.
           let m = made_of s k r is in
           let newest : at.ord ≡ head_turn s.header = sym turn ∙ ap (ord_in s.header) head in
-          let p = div-add-mod (k - 1) 40 in
+          let p = div-add-mod (k - 1) EXTENT_RECORDS in
           let q = mod-lt (k - 1) (forty) in
           omega (arith, m.0, m.1, count, newest, tells.0, tells.1, p, q);
     }
 
     pub named : undo_named shape x.seg s at ≡ r
     named =
-        ap (λ (i : ℕ). get_or s.undo i no_undo) (joined (40 * (D / 4)) (10 * (D % 4)) at.rec)
+        ap (λ (i : ℕ). get_or s.undo i no_undo) (joined (EXTENT_RECORDS * (D / 4)) (UNDO_RECORDS * (D % 4)) at.rec)
         ∙ address_reads shape x.seg s at k r a tells.0 tells.1 is
 
   -- a record that may be written back names what there is, and keeps what could stand there
-  module _ (Saved Kept : UndoRecord → Type 0) (saved : (r : UndoRecord) → Saved r → (r.home < table_blocks shape) × (r.entry < 8) × (r.cell < 16)) (kept : (r : UndoRecord) → Saved r → Kept r) where
+  module _ (Saved Kept : UndoRecord → Type 0) (saved : (r : UndoRecord) → Saved r → (r.home < table_blocks shape) × (r.entry < ENTRIES) × (r.cell < CELLS)) (kept : (r : UndoRecord) → Saved r → Kept r) where
     pub listed_chain : (at : Uba) (chs : List Change) → Listed shape s x Saved at chs → Chain Kept shape s x (length chs) at
     listed_chain at [] listed = listed
     listed_chain at (ch ∷ more) listed =

@@ -5,7 +5,7 @@ use Rattle.std.proofs.lemmas.List.{ext_get_or, get_or_past}
 use Rattle.std.proofs.lemmas.List.FromFn.{length-map-range_with_len, get_or-map-range_with_len}
 use Rattle.rb_base.specs.Blocks.{IsShape}
 use Rattle.rb_base.specs.declared.shape.Shape.{Shape}
-use Rattle.rb_base.specs.declared.sizes.TheConstants.{ACTIVE}
+use Rattle.rb_base.specs.declared.sizes.TheConstants.{ACTIVE, SLOTS}
 use Rattle.rb_model.specs.Book.{Book, BookSlot, book_at, free_slot, fresh_book, slot_owner}
 use Rattle.rb_model.specs.State.{Session, State, no_session, opened, owner_at, session_count, session_own}
 use Rattle.rb_model.specs.Rows.{TableRow}
@@ -45,12 +45,12 @@ module _ (shape : Shape) (blocks : List (List ℕ)) (number : ℕ) (rows : List 
   order : (g : ℕ) → g < shape.segments → HeaderInOrder (commit_scn shape blocks) (Segs g).header
   order g there = (sound.standing.stands.in_order g there).header
 
-  idle_at : (g i : ℕ) → g < shape.segments → i < 16 → (slot_in (Segs g).header i).state ≢ ACTIVE
+  idle_at : (g i : ℕ) → g < shape.segments → i < SLOTS → (slot_in (Segs g).header i).state ≢ ACTIVE
   idle_at g i there few runs =
-      let t = 16 * g + i in
-      let seg : t / 16 ≡ g = omega (arith, few) in
-      let at : t % 16 ≡ i = omega (arith, few) in
-      idle t (omega (arith, there, few)) (ap (λ (h : ℕ). (slot_in (Segs h).header (t % 16)).state) seg ∙ (ap (λ (j : ℕ). (slot_in (Segs g).header j).state) at ∙ runs))
+      let t = SLOTS * g + i in
+      let seg : t / SLOTS ≡ g = omega (arith, few) in
+      let at : t % SLOTS ≡ i = omega (arith, few) in
+      idle t (omega (arith, there, few)) (ap (λ (h : ℕ). (slot_in (Segs h).header (t % SLOTS)).state) seg ∙ (ap (λ (j : ℕ). (slot_in (Segs g).header j).state) at ∙ runs))
 
   -- each header tells the book that is found
   is_book : (g : ℕ) → g < shape.segments → IsBook (Segs g).header (found_book (Segs g).header)
@@ -68,9 +68,9 @@ module _ (shape : Shape) (blocks : List (List ℕ)) (number : ℕ) (rows : List 
   book_is g there = get_or-map-range_with_len (λ (k : ℕ). found_book (segment_of shape blocks k).header) 0 shape.segments g g fresh_book there (omega arith)
 
   pub unowned : (t : ℕ) → owner_at First t ≡ None
-  unowned t = elim (cases_lt (t / 16) shape.segments) [
-    | inl there ↦ ap (λ (b : Book). slot_owner b (t % 16)) (book_is (t / 16) there) ∙ no_owner (Segs (t / 16)).header.slots (t % 16)
-    | inr past ↦ ap (λ (b : Book). slot_owner b (t % 16)) (get_or_past (books_of shape blocks) (t / 16) fresh_book (omega (arith, past, many))) ∙ ap (λ (s : BookSlot). s.owner) (all_same free_slot 16 (t % 16))
+  unowned t = elim (cases_lt (t / SLOTS) shape.segments) [
+    | inl there ↦ ap (λ (b : Book). slot_owner b (t % SLOTS)) (book_is (t / SLOTS) there) ∙ no_owner (Segs (t / SLOTS)).header.slots (t % SLOTS)
+    | inr past ↦ ap (λ (b : Book). slot_owner b (t % SLOTS)) (get_or_past (books_of shape blocks) (t / SLOTS) fresh_book (omega (arith, past, many))) ∙ ap (λ (s : BookSlot). s.owner) (all_same free_slot SLOTS (t % SLOTS))
   ]
 
   nobody : (s t : ℕ) → Owns First s t → ⊥
@@ -80,7 +80,7 @@ module _ (shape : Shape) (blocks : List (List ℕ)) (number : ℕ) (rows : List 
   no_change s = ap (λ (z : Session). z.own) (all_same no_session session_count (s - 1))
 
   -- so there is no live change, neither in the machine nor in the blocks
-  lives_none : (t : ℕ) → t < 16 * shape.segments → own (lives_of First Now) t ≡ []
+  lives_none : (t : ℕ) → t < SLOTS * shape.segments → own (lives_of First Now) t ≡ []
   lives_none t t_in = lives_at First Now t t_in ∙ ap (owned First (Now.xid t)) (unowned t)
 
   same_lives : sound.lives ≡ lives_of First Now
@@ -88,7 +88,7 @@ module _ (shape : Shape) (blocks : List (List ℕ)) (number : ℕ) (rows : List 
       let here = sound.standing.stands.slots_counted in
       let there = lives_counted First Now in
       ext_get_or [] sound.lives (lives_of First Now) (here ∙ sym there) (λ t lt.
-      let t_in : t < 16 * shape.segments = omega (arith, lt, here) in
+      let t_in : t < SLOTS * shape.segments = omega (arith, lt, here) in
       (sound.standing.stands.slots t t_in).idle (idle t t_in) ∙ sym (lives_none t t_in))
 
   running : Running shape Segs

@@ -2,7 +2,7 @@
 use Rattle.std.proofs.Common.{◌≡◌, ◌<◌, ◌+◌, ◌*◌, ◌/◌, ◌%◌, ℕ, List, [], refl, sym, ap, subst, arith}
 use Rattle.rb_base.specs.Blocks.{block_of, header_block}
 use Rattle.rb_base.specs.declared.shape.Shape.{Shape}
-use Rattle.rb_base.specs.declared.sizes.TheConstants.{ACTIVE}
+use Rattle.rb_base.specs.declared.sizes.TheConstants.{ACTIVE, SLOTS}
 use Rattle.rb_model.specs.Rows.{TableRow}
 use Rattle.rb_recovery.proofs.Headers.{segment_sound}
 use Rattle.rb_recovery.proofs.Listed.{listed_chain}
@@ -48,13 +48,13 @@ module _ (shape : Shape) (blocks : List (List ℕ)) (past : Past) (lives : List 
   stands : (r : UndoRecord) → IsSaved shape Scn (wraps_of Segs) r → CouldStand shape Scn (wrap_at shape blocks) r
   stands r saved = stand_alike shape Scn (wraps_of Segs) (wrap_at shape blocks) r alike (record { entry = saved.entry_sound; cell = saved.cell_sound; value = saved.value })
 
-  active : (g i : ℕ) → g < shape.segments → i < 16 → (slot_in (Segs g).header i).state ≡ ACTIVE → IsActive (CouldStand shape Scn (wrap_at shape blocks)) shape g (Segs g) i
+  active : (g i : ℕ) → g < shape.segments → i < SLOTS → (slot_in (Segs g).header i).state ≡ ACTIVE → IsActive (CouldStand shape Scn (wrap_at shape blocks)) shape g (Segs g) i
   active g i there few runs =
-      let t = 16 * g + i in
-      let seg : t / 16 ≡ g = omega (arith, few) in
-      let at : t % 16 ≡ i = omega (arith, few) in
+      let t = SLOTS * g + i in
+      let seg : t / SLOTS ≡ g = omega (arith, few) in
+      let at : t % SLOTS ≡ i = omega (arith, few) in
       let by_number = stand.stands.slots t (omega (arith, there, few)) in
-      let by_segment = subst (λ (h : ℕ). SlotStands shape Scn (wraps_of Segs) h (Segs h) (t % 16) (own lives t)) seg by_number in
+      let by_segment = subst (λ (h : ℕ). SlotStands shape Scn (wraps_of Segs) h (Segs h) (t % SLOTS) (own lives t)) seg by_number in
       let slot = subst (λ (j : ℕ). SlotStands shape Scn (wraps_of Segs) g (Segs g) j (own lives t)) at by_segment in
       active_slot shape Scn (logged_of shape blocks) (wraps_of Segs) g (Segs g) i (own lives t) (stand.stands.in_order g there) (slot.active runs) (CouldStand shape Scn (wrap_at shape blocks)) stands
 

@@ -3,12 +3,15 @@ use Rattle.std.proofs.Common.{◌≡◌, ◌≢◌, ◌⊎◌, ◌<◌, ◌≤�
 use Rattle.std.proofs.lemmas.Bool.{cases_eq}
 use Rattle.std.proofs.lemmas.List.{get_or-set_same}
 use Rattle.std.proofs.Math.Nat.{div-add-mod}
+use Rattle.rb_undoblock.specs.declared.record.TheConstants.{UNDO_RECORDS}
+use Rattle.rb_itl.specs.declared.slots.TheConstants.{ENTRIES}
+use Rattle.rb_cell.specs.declared.cell.TheConstants.{CELLS}
 use Rattle.rb_base.specs.Blocks.{after_group, block_of, header_block, shape_blocks, table_blocks, IsShape}
 use Rattle.rb_base.specs.Groups.{Patch, IsGroup}
 use Rattle.rb_base.specs.declared.ids.Uba.{Uba}
 use Rattle.rb_base.specs.declared.ids.Xid.{Xid}
 use Rattle.rb_base.specs.declared.shape.Shape.{Shape}
-use Rattle.rb_base.specs.declared.sizes.TheConstants.{ACTIVE}
+use Rattle.rb_base.specs.declared.sizes.TheConstants.{ACTIVE, SLOTS}
 use Rattle.rb_cell.specs.Cells.{cell_of}
 use Rattle.rb_heap.specs.Homes.{home_patches}
 use Rattle.rb_itl.specs.Entries.{entry_of}
@@ -41,7 +44,7 @@ use Rattle.rb_undoblock.specs.declared.record.UndoRecord.{UndoRecord}
 use Rattle.law_home.specs.Walk.{Change, own}
 
 -- what a put back leaves of the transaction's slot: it runs and has one live change less
-pub less_live : (shape : Shape) (x : Xid) (u : UndoRecord) (before now : List (List ℕ)) (n : ℕ) → x.slot < 16 → TakesBack shape x u before now → HasLive shape before x (n + 1) → HasLive shape now x n
+pub less_live : (shape : Shape) (x : Xid) (u : UndoRecord) (before now : List (List ℕ)) (n : ℕ) → x.slot < SLOTS → TakesBack shape x u before now → HasLive shape before x (n + 1) → HasLive shape now x n
 less_live shape x u before now n few takes has =
     let h = header_for shape before x in
     let s = slot_in h x.slot in
@@ -62,11 +65,11 @@ abbrev pub back_group : Shape → List (List ℕ) → Xid → List Patch
 back_group shape blocks x = back_patches shape x (newest_record shape blocks x) (header_for shape blocks x)
 
 -- Its patches are those of the record and of the slot as it is then.
-pub patches_back : (shape : Shape) (t wrap : ℕ) (u : UndoRecord) (before now : List (List ℕ)) → newest_record shape before (xid_of t wrap) ≡ u → header_at shape now t ≡ taken_back (t % 16) u.previous (header_at shape before t)
-    → back_group shape before (xid_of t wrap) ≡ home_patches u.home u.cell (cell_of u.cell_before) u.entry (entry_of u.entry_before) ++ slot_patches (header_block shape (t / 16)) (t % 16) (header_at shape now t)
+pub patches_back : (shape : Shape) (t wrap : ℕ) (u : UndoRecord) (before now : List (List ℕ)) → newest_record shape before (xid_of t wrap) ≡ u → header_at shape now t ≡ taken_back (t % SLOTS) u.previous (header_at shape before t)
+    → back_group shape before (xid_of t wrap) ≡ home_patches u.home u.cell (cell_of u.cell_before) u.entry (entry_of u.entry_before) ++ slot_patches (header_block shape (t / SLOTS)) (t % SLOTS) (header_at shape now t)
 patches_back shape t wrap u before now read header =
     ap (λ (r : UndoRecord). back_patches shape (xid_of t wrap) r (header_at shape before t)) read
-    ∙ ap (λ (h : Header). home_patches u.home u.cell (cell_of u.cell_before) u.entry (entry_of u.entry_before) ++ slot_patches (header_block shape (t / 16)) (t % 16) h) (sym header)
+    ∙ ap (λ (h : Header). home_patches u.home u.cell (cell_of u.cell_before) u.entry (entry_of u.entry_before) ++ slot_patches (header_block shape (t / SLOTS)) (t % SLOTS) h) (sym header)
 
 -- a list of some length has a first item
 first_of : (chs : List Change) (n : ℕ) → length chs ≡ n + 1 → (ch : Change) × (more : List Change) × (chs ≡ ch ∷ more)
@@ -79,13 +82,13 @@ record Newest (shape : Shape) (blocks : List (List ℕ)) (lives : List (List Cha
   more : List Change
   has : own lives t ≡ ch ∷ more
   u : UndoRecord
-  there : record_in (segments_of shape blocks (t / 16)) ch.place.index ≡ Some u
+  there : record_in (segments_of shape blocks (t / SLOTS)) ch.place.index ≡ Some u
   home : u.home < table_blocks shape
   can : CanBack shape blocks (xid_of t wrap)
   read : newest_record shape blocks (xid_of t wrap) ≡ u
   last : last_record shape blocks t ≡ u
 
-module _ (shape : Shape) (number : ℕ) (rows : List TableRow) (before : List (List ℕ)) (lives : List (List Change)) (stand : Standing shape before (record { base = number; rows = rows; list = [] }) lives) (t wrap : ℕ) (t_in : t < 16 * shape.segments) (n : ℕ) (live : HasLive shape before (xid_of t wrap) (n + 1)) where
+module _ (shape : Shape) (number : ℕ) (rows : List TableRow) (before : List (List ℕ)) (lives : List (List Change)) (stand : Standing shape before (record { base = number; rows = rows; list = [] }) lives) (t wrap : ℕ) (t_in : t < SLOTS * shape.segments) (n : ℕ) (live : HasLive shape before (xid_of t wrap) (n + 1)) where
   abbrev Segs : ℕ → Segment
   Segs = segments_of shape before
 
@@ -95,7 +98,7 @@ module _ (shape : Shape) (number : ℕ) (rows : List TableRow) (before : List (L
   abbrev X : Xid
   X = xid_of t wrap
 
-  slot_at_x : slot_of Segs t ≡ slot_in (header_for shape before X) (t % 16)
+  slot_at_x : slot_of Segs t ≡ slot_in (header_for shape before X) (t % SLOTS)
   slot_at_x = slot_is shape before t wrap
 
   active : (slot_of Segs t).state ≡ ACTIVE
@@ -109,13 +112,13 @@ module _ (shape : Shape) (number : ℕ) (rows : List TableRow) (before : List (L
       let ch = first.0 in
       let more = first.1 in
       let at = (slot_of Segs t).newest_at in
-      let listed : Listed shape (Segs (t / 16)) (xid_in (t / 16) (Segs (t / 16)) (t % 16)) (IsSaved shape (commit_scn shape before) (wraps_of Segs)) at (ch ∷ more) =
-      subst (λ (z : List Change). Listed shape (Segs (t / 16)) (xid_in (t / 16) (Segs (t / 16)) (t % 16)) (IsSaved shape (commit_scn shape before) (wraps_of Segs)) at z) first.2 slot.listed in
+      let listed : Listed shape (Segs (t / SLOTS)) (xid_in (t / SLOTS) (Segs (t / SLOTS)) (t % SLOTS)) (IsSaved shape (commit_scn shape before) (wraps_of Segs)) at (ch ∷ more) =
+      subst (λ (z : List Change). Listed shape (Segs (t / SLOTS)) (xid_in (t / SLOTS) (Segs (t / SLOTS)) (t % SLOTS)) (IsSaved shape (commit_scn shape before) (wraps_of Segs)) at z) first.2 slot.listed in
       let u = listed.4.0 in
       let same : at ≡ newest_of shape before X = ap (λ (s : TableSlot). s.newest_at) slot_at_x in
-      let reads : undo_at (block_of before at.block) at.rec ≡ u = listed_reads shape before (xid_in (t / 16) (Segs (t / 16)) (t % 16)) (IsSaved shape (commit_scn shape before) (wraps_of Segs)) at ch more u listed listed.4.1 in
+      let reads : undo_at (block_of before at.block) at.rec ≡ u = listed_reads shape before (xid_in (t / SLOTS) (Segs (t / SLOTS)) (t % SLOTS)) (IsSaved shape (commit_scn shape before) (wraps_of Segs)) at ch more u listed listed.4.1 in
       let read : newest_record shape before X ≡ u = ap (λ (z : Uba). undo_at (block_of before z.block) z.rec) (sym same) ∙ reads in
-      let g_in = div-add-mod t 16 in
+      let g_in = div-add-mod t SLOTS in
       record {
         ch = ch;
         more = more;
@@ -128,10 +131,10 @@ module _ (shape : Shape) (number : ℕ) (rows : List TableRow) (before : List (L
           live = omega (arith, live.live);
           some = subst (λ (z : Uba). 1 ≤ z.ord) same listed.0;
           block = subst (λ (z : Uba). z.block < shape_blocks shape) same (omega (arith, listed.1.within, g_in, t_in));
-          place = subst (λ (z : Uba). z.rec < 10) same listed.1.rec;
+          place = subst (λ (z : Uba). z.rec < UNDO_RECORDS) same listed.1.rec;
           home = subst (λ (z : UndoRecord). z.home < table_blocks shape) (sym read) listed.4.6.there;
-          entry = subst (λ (z : UndoRecord). z.entry < 8) (sym read) listed.4.6.entry;
-          cell = subst (λ (z : UndoRecord). z.cell < 16) (sym read) listed.4.6.cell;
+          entry = subst (λ (z : UndoRecord). z.entry < ENTRIES) (sym read) listed.4.6.entry;
+          cell = subst (λ (z : UndoRecord). z.cell < CELLS) (sym read) listed.4.6.cell;
         };
         read = read;
         last = reads;
@@ -146,7 +149,7 @@ module _ (shape : Shape) (number : ℕ) (rows : List TableRow) (before : List (L
 
     module _ (valid : IsGroup group) (made : now ≡ after_group (logged_of shape before + 1) group before) (takes : TakesBack shape X (newest_record shape before X) before now) where
       abbrev Is : ℕ → Type 0
-      Is x = (x ≡ newest.u.home) ⊎ (x ≡ header_block shape (t / 16))
+      Is x = (x ≡ newest.u.home) ⊎ (x ≡ header_block shape (t / SLOTS))
 
       at_home : (newest_record shape before X).home ≡ newest.u.home
       at_home = ap (λ (u : UndoRecord). u.home) newest.read
@@ -168,13 +171,13 @@ module _ (shape : Shape) (number : ℕ) (rows : List TableRow) (before : List (L
             patches = patches_back shape t wrap newest.u before now newest.read back.header;
           }
 
-      only : (b : ℕ) → Is b → RowsOrHeader shape (t / 16) b
+      only : (b : ℕ) → Is b → RowsOrHeader shape (t / SLOTS) b
       only b = elim [ inl at ↦ inl (omega (arith, at, newest.home)) | inr at ↦ inr at ]
 
       others : (v : ℕ) → v ≢ t → slot_of (segments_of shape now) v ≡ slot_of Segs v
-      others = slot_other Segs (segments_of shape now) t (back_segment Segs t newest.u) (λ g. ap (λ (f : ℕ → Segment). f g) (segments_put_back shape t newest.u before now newest.home puts)) (back_other (Segs (t / 16)) (t % 16) newest.u.previous)
+      others = slot_other Segs (segments_of shape now) t (back_segment Segs t newest.u) (λ g. ap (λ (f : ℕ → Segment). f g) (segments_put_back shape t newest.u before now newest.home puts)) (back_other (Segs (t / SLOTS)) (t % SLOTS) newest.u.previous)
 
-      idle : (v : ℕ) → v < 16 * shape.segments → IsIdle shape before v → IsIdle shape now v
+      idle : (v : ℕ) → v < SLOTS * shape.segments → IsIdle shape before v → IsIdle shape now v
       idle v v_in is = elim (cases_eq v t) [
         | inl at ↦ absurd (is (ap (λ (z : ℕ). (slot_of Segs z).state) at ∙ active))
         | inr ne ↦ λ runs. is (ap (λ (s : TableSlot). s.state) (sym (others v ne)) ∙ runs)
@@ -192,15 +195,15 @@ module _ (shape : Shape) (number : ℕ) (rows : List TableRow) (before : List (L
           let b = owed_is shape now in
           omega (arith, o, a, b))
           (change t t_in (subst (λ (u : UndoRecord). IsPutBack shape t u before now) (sym newest.last) puts))
-          (books_same shape t Is before now puts.group only (ap found_book puts.header ∙ book_back (t % 16) newest.u.previous (header_at shape before t)))
+          (books_same shape t Is before now puts.group only (ap found_book puts.header ∙ book_back (t % SLOTS) newest.u.previous (header_at shape before t)))
           idle
 
 -- the same by the transaction's id
-module _ (shape : Shape) (number : ℕ) (rows : List TableRow) (before : List (List ℕ)) (sound : SoundAs shape before number rows) (x : Xid) (there : x.seg < shape.segments) (few : x.slot < 16) where
+module _ (shape : Shape) (number : ℕ) (rows : List TableRow) (before : List (List ℕ)) (sound : SoundAs shape before number rows) (x : Xid) (there : x.seg < shape.segments) (few : x.slot < SLOTS) where
   pub can_be_back : (n : ℕ) → HasLive shape before x (n + 1) → CanBack shape before x
   can_be_back n live =
       let is = xid_is x few in
-      subst (CanBack shape before) (sym is) (can_back shape number rows before sound.lives sound.standing (16 * x.seg + x.slot) x.wrap (omega (arith, there, few)) n (subst (λ (z : Xid). HasLive shape before z (n + 1)) is live))
+      subst (CanBack shape before) (sym is) (can_back shape number rows before sound.lives sound.standing (SLOTS * x.seg + x.slot) x.wrap (omega (arith, there, few)) n (subst (λ (z : Xid). HasLive shape before z (n + 1)) is live))
 
   pub back_puts : (now : List (List ℕ)) (n : ℕ) → IsShape shape → HasLive shape before x (n + 1) → IsGroup (back_group shape before x) → now ≡ after_group (logged_of shape before + 1) (back_group shape before x) before → TakesBack shape x (newest_record shape before x) before now → PutsBack shape number rows (back_group shape before x ∷ []) before now
   back_puts now n shaped live =
@@ -208,4 +211,4 @@ module _ (shape : Shape) (number : ℕ) (rows : List TableRow) (before : List (L
       let Fact : Xid → Type 0 = λ z.
       IsGroup (back_group shape before z) → now ≡ after_group (logged_of shape before + 1) (back_group shape before z) before → TakesBack shape z (newest_record shape before z) before now
       → PutsBack shape number rows (back_group shape before z ∷ []) before now in
-      subst Fact (sym is) (back_puts_at shape number rows before sound.lives sound.standing (16 * x.seg + x.slot) x.wrap (omega (arith, there, few)) n (subst (λ (z : Xid). HasLive shape before z (n + 1)) is live) now shaped)
+      subst Fact (sym is) (back_puts_at shape number rows before sound.lives sound.standing (SLOTS * x.seg + x.slot) x.wrap (omega (arith, there, few)) n (subst (λ (z : Xid). HasLive shape before z (n + 1)) is live) now shaped)

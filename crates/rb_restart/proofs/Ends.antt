@@ -8,7 +8,7 @@ use Rattle.rb_base.specs.Blocks.{after_group, block_of, header_block, written_to
 use Rattle.rb_base.specs.Groups.{Patch}
 use Rattle.rb_base.specs.declared.ids.Xid.{Xid}
 use Rattle.rb_base.specs.declared.shape.Shape.{Shape}
-use Rattle.rb_base.specs.declared.sizes.TheConstants.{ACTIVE}
+use Rattle.rb_base.specs.declared.sizes.TheConstants.{ACTIVE, SLOTS}
 use Rattle.rb_model.specs.Rows.{TableRow}
 use Rattle.rb_restart.specs.Rollback.{found_book, slot}
 use Rattle.rb_restart.specs.Steps.{HasLive, IsIdle, PutsBack}
@@ -39,7 +39,7 @@ abbrev pub end_group : Shape → List (List ℕ) → Xid → List Patch
 end_group shape blocks x = slot_patches (header_block shape x.seg) x.slot (ended x.slot (header_for shape blocks x))
 
 -- The header was moved in a copy, to which the same bytes were written.
-pub header_ended : (shape : Shape) (blocks : List (List ℕ)) (number : ℕ) (x : Xid) (header : List ℕ) → AreBlocks shape blocks → x.seg < shape.segments → x.slot < 16
+pub header_ended : (shape : Shape) (blocks : List (List ℕ)) (number : ℕ) (x : Xid) (header : List ℕ) → AreBlocks shape blocks → x.seg < shape.segments → x.slot < SLOTS
     → header ≡ written_to (header_block shape x.seg) (slot_patches (header_block shape x.seg) x.slot (header_of header)) (block_of blocks (header_block shape x.seg)) → header_of header ≡ ended x.slot (header_for shape blocks x)
     → header_for shape (after_group number (end_group shape blocks x) blocks) x ≡ ended x.slot (header_for shape blocks x)
 header_ended shape blocks number x header are there few copied moved =
@@ -52,7 +52,7 @@ no_changes : (chs : List Change) → length chs ≡ 0 → chs ≡ []
 no_changes [] is = refl
 no_changes (ch ∷ chs) is = absurd (omega (arith, is))
 
-module _ (shape : Shape) (number : ℕ) (rows : List TableRow) (before : List (List ℕ)) (lives : List (List Change)) (stand : Standing shape before (record { base = number; rows = rows; list = [] }) lives) (shaped : IsShape shape) (t wrap : ℕ) (t_in : t < 16 * shape.segments) (live : HasLive shape before (xid_of t wrap) 0) (now : List (List ℕ)) where
+module _ (shape : Shape) (number : ℕ) (rows : List TableRow) (before : List (List ℕ)) (lives : List (List Change)) (stand : Standing shape before (record { base = number; rows = rows; list = [] }) lives) (shaped : IsShape shape) (t wrap : ℕ) (t_in : t < SLOTS * shape.segments) (live : HasLive shape before (xid_of t wrap) 0) (now : List (List ℕ)) where
   abbrev Segs : ℕ → Segment
   Segs = segments_of shape before
 
@@ -62,7 +62,7 @@ module _ (shape : Shape) (number : ℕ) (rows : List TableRow) (before : List (L
   abbrev X : Xid
   X = xid_of t wrap
 
-  slot_at_x : slot_of Segs t ≡ slot_in (header_for shape before X) (t % 16)
+  slot_at_x : slot_of Segs t ≡ slot_in (header_for shape before X) (t % SLOTS)
   slot_at_x = slot_is shape before t wrap
 
   active : (slot_of Segs t).state ≡ ACTIVE
@@ -72,12 +72,12 @@ module _ (shape : Shape) (number : ℕ) (rows : List TableRow) (before : List (L
   empty = no_changes (own lives t) (sym ((stand.stands.slots t t_in).active active).count ∙ (ap (λ (s : TableSlot). s.live) slot_at_x ∙ live.live))
 
   abbrev Is : ℕ → Type 0
-  Is x = x ≡ header_block shape (t / 16)
+  Is x = x ≡ header_block shape (t / SLOTS)
 
-  module _ (made : now ≡ after_group (logged_of shape before + 1) (end_group shape before X) before) (header : header_for shape now X ≡ ended (t % 16) (header_for shape before X)) where
+  module _ (made : now ≡ after_group (logged_of shape before + 1) (end_group shape before X) before) (header : header_for shape now X ≡ ended (t % SLOTS) (header_for shape before X)) where
     ends : IsEnded shape t before now
     ends =
-        let g_in = div-add-mod t 16 in
+        let g_in = div-add-mod t SLOTS in
         let rows_few : shape.tables * shape.blocks ≤ 16 * 4096 = mul-le shape.tables shape.blocks 16 4096 shaped.few_tables.1 shaped.few_blocks.1 in
         record {
           group = record {
@@ -88,31 +88,31 @@ module _ (shape : Shape) (number : ℕ) (rows : List TableRow) (before : List (L
             made = made;
           };
           header = header;
-          patches = ap (slot_patches (header_block shape (t / 16)) (t % 16)) (sym header);
+          patches = ap (slot_patches (header_block shape (t / SLOTS)) (t % SLOTS)) (sym header);
         }
 
-    within : t % 16 < length (Segs (t / 16)).header.slots
-    within = let g_in = div-add-mod t 16 in let many = (stand.stands.in_order (t / 16) (omega (arith, g_in, t_in))).header.slots_counted in omega (arith, many)
+    within : t % SLOTS < length (Segs (t / SLOTS)).header.slots
+    within = let g_in = div-add-mod t SLOTS in let many = (stand.stands.in_order (t / SLOTS) (omega (arith, g_in, t_in))).header.slots_counted in omega (arith, many)
 
     after : (g : ℕ) → segments_of shape now g ≡ ended_segments t Segs g
     after g = ap (λ (f : ℕ → Segment). f g) (segments_ended shape t before now ends)
 
     others : (v : ℕ) → v ≢ t → slot_of (segments_of shape now) v ≡ slot_of Segs v
-    others = slot_other Segs (segments_of shape now) t (with_header (ended (t % 16) (Segs (t / 16)).header) (Segs (t / 16))) after (ended_other (Segs (t / 16)) (t % 16) within active)
+    others = slot_other Segs (segments_of shape now) t (with_header (ended (t % SLOTS) (Segs (t / SLOTS)).header) (Segs (t / SLOTS))) after (ended_other (Segs (t / SLOTS)) (t % SLOTS) within active)
 
     pub idle_at : IsIdle shape now t
     idle_at is =
-        let at : slot_of (segments_of shape now) t ≡ slot_in (ended (t % 16) (Segs (t / 16)).header) (t % 16) = slot_after Segs (segments_of shape now) t (with_header (ended (t % 16) (Segs (t / 16)).header) (Segs (t / 16))) after in
-        ended_done (Segs (t / 16)) (t % 16) within active (ap (λ (s : TableSlot). s.state) (sym at) ∙ is)
+        let at : slot_of (segments_of shape now) t ≡ slot_in (ended (t % SLOTS) (Segs (t / SLOTS)).header) (t % SLOTS) = slot_after Segs (segments_of shape now) t (with_header (ended (t % SLOTS) (Segs (t / SLOTS)).header) (Segs (t / SLOTS))) after in
+        ended_done (Segs (t / SLOTS)) (t % SLOTS) within active (ap (λ (s : TableSlot). s.state) (sym at) ∙ is)
 
-    idle : (v : ℕ) → v < 16 * shape.segments → IsIdle shape before v → IsIdle shape now v
+    idle : (v : ℕ) → v < SLOTS * shape.segments → IsIdle shape before v → IsIdle shape now v
     idle v v_in is = elim (cases_eq v t) [
       | inl at ↦ absurd (is (ap (λ (z : ℕ). (slot_of Segs z).state) at ∙ active))
       | inr ne ↦ λ runs. is (ap (λ (s : TableSlot). s.state) (sym (others v ne)) ∙ runs)
     ]
 
     logged : logged_of shape now ≡ logged_of shape before + 1
-    logged = logged_next shape Is before now ends.group stand.whole (λ b at. let g_in = div-add-mod t 16 in omega (arith, at, g_in, t_in)) (omega (arith, stand.ahead))
+    logged = logged_next shape Is before now ends.group stand.whole (λ b at. let g_in = div-add-mod t SLOTS in omega (arith, at, g_in, t_in)) (omega (arith, stand.ahead))
 
     pub end_puts_at : PutsBack shape number rows (end_group shape before X ∷ []) before now
     end_puts_at = one_puts shape number rows (end_group shape before X) before now
@@ -126,21 +126,21 @@ module _ (shape : Shape) (number : ℕ) (rows : List TableRow) (before : List (L
         let c = ap (owed shape) (segments_ended shape t before now ends) in
         omega (arith, o, a, b, c))
         (slot t t_in ends)
-        (books_same shape t Is before now ends.group (λ b at. inr at) (ap found_book ends.header ∙ book_ended (t % 16) (header_at shape before t)))
+        (books_same shape t Is before now ends.group (λ b at. inr at) (ap found_book ends.header ∙ book_ended (t % SLOTS) (header_at shape before t)))
         idle
 
 -- the same by the transaction's id
-pub end_puts : (shape : Shape) (number : ℕ) (rows : List TableRow) (before now : List (List ℕ)) (x : Xid) → SoundAs shape before number rows → IsShape shape → x.seg < shape.segments → x.slot < 16 → HasLive shape before x 0
+pub end_puts : (shape : Shape) (number : ℕ) (rows : List TableRow) (before now : List (List ℕ)) (x : Xid) → SoundAs shape before number rows → IsShape shape → x.seg < shape.segments → x.slot < SLOTS → HasLive shape before x 0
     → now ≡ after_group (logged_of shape before + 1) (end_group shape before x) before → header_for shape now x ≡ ended x.slot (header_for shape before x)
-    → PutsBack shape number rows (end_group shape before x ∷ []) before now × IsIdle shape now (16 * x.seg + x.slot)
+    → PutsBack shape number rows (end_group shape before x ∷ []) before now × IsIdle shape now (SLOTS * x.seg + x.slot)
 end_puts shape number rows before now x sound shaped there few live =
     let is = xid_is x few in
-    let t = 16 * x.seg + x.slot in
+    let t = SLOTS * x.seg + x.slot in
     let Fact : Xid → Type 0 = λ z.
     now ≡ after_group (logged_of shape before + 1) (end_group shape before z) before → header_for shape now z ≡ ended z.slot (header_for shape before z)
     → PutsBack shape number rows (end_group shape before z ∷ []) before now × IsIdle shape now t in
     let has = subst (λ (z : Xid). HasLive shape before z 0) is live in
-    let t_in : t < 16 * shape.segments = omega (arith, there, few) in
+    let t_in : t < SLOTS * shape.segments = omega (arith, there, few) in
     subst Fact (sym is) (λ made header. (
       end_puts_at shape number rows before sound.lives sound.standing shaped t x.wrap t_in has now made header,
       idle_at shape number rows before sound.lives sound.standing shaped t x.wrap t_in has now made header,

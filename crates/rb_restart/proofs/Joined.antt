@@ -3,6 +3,7 @@ use Rattle.std.proofs.Common.{◌≡◌, ◌<◌, ◌≤◌, ◌+◌, ◌-◌, �
 use Rattle.std.proofs.lemmas.Bool.{cases_lt}
 use Rattle.std.proofs.lemmas.List.{take-append-le}
 use Rattle.std.proofs.Math.Seq.{take-append-add}
+use Rattle.rb_base.specs.declared.sizes.TheConstants.{SLOTS}
 use Rattle.rb_base.specs.Blocks.{after_group, after_groups}
 use Rattle.rb_base.specs.Groups.{Patch}
 use Rattle.rb_base.specs.Logs.{Logs, more_logs}
@@ -53,7 +54,7 @@ module _ (shape : Shape) (number : ℕ) (rows : List TableRow) where
       none (suc count) few = absurd (omega (arith, few))
 
   -- one group
-  pub one_puts : (group : List Patch) (before now : List (List ℕ)) → SoundAs shape before number rows → SoundAs shape now number rows → now ≡ after_group (logged_of shape before + 1) group before → logged_of shape now ≡ logged_of shape before + 1 → owed_in shape now + 1 ≡ owed_in shape before → IsBackGroup shape before now → SameBooks shape before now → ((t : ℕ) → t < 16 * shape.segments → IsIdle shape before t → IsIdle shape now t) → PutsBack shape number rows (group ∷ []) before now
+  pub one_puts : (group : List Patch) (before now : List (List ℕ)) → SoundAs shape before number rows → SoundAs shape now number rows → now ≡ after_group (logged_of shape before + 1) group before → logged_of shape now ≡ logged_of shape before + 1 → owed_in shape now + 1 ≡ owed_in shape before → IsBackGroup shape before now → SameBooks shape before now → ((t : ℕ) → t < SLOTS * shape.segments → IsIdle shape before t → IsIdle shape now t) → PutsBack shape number rows (group ∷ []) before now
   one_puts group before now sound after made logged owed back books idle = record {
     sound = each;
     made = made;
@@ -136,7 +137,7 @@ module _ {S : Type 0} (s : Ghosts S) (shape : Shape) where
       take_all (g ∷ groups) = ap (λ (l : List (List Patch)). g ∷ l) (take_all groups)
 
   -- one call after another
-  pub rolls_joined : (old mid new : S) (most more all : ℕ) (going : Bool) (First Second Both : List (List ℕ) → Type 0) → most + more ≤ all → Rolls s shape old mid most true First → Rolls s shape mid new more going Second → (s.tells → going ≡ true → (number : ℕ) (rows : List TableRow) → MayRoll shape number rows (s.lsn mid) (s.blocks mid) → ((t : ℕ) → t < 16 * shape.segments → IsIdle shape (s.blocks mid) t → IsIdle shape (s.blocks new) t) → First (s.blocks mid) → Second (s.blocks new) → Both (s.blocks new)) → Rolls s shape old new all going Both
+  pub rolls_joined : (old mid new : S) (most more all : ℕ) (going : Bool) (First Second Both : List (List ℕ) → Type 0) → most + more ≤ all → Rolls s shape old mid most true First → Rolls s shape mid new more going Second → (s.tells → going ≡ true → (number : ℕ) (rows : List TableRow) → MayRoll shape number rows (s.lsn mid) (s.blocks mid) → ((t : ℕ) → t < SLOTS * shape.segments → IsIdle shape (s.blocks mid) t → IsIdle shape (s.blocks new) t) → First (s.blocks mid) → Second (s.blocks new) → Both (s.blocks new)) → Rolls s shape old new all going Both
   rolls_joined old mid new most more all going First Second Both le a b both = record {
     groups = a.groups ++ b.groups;
     logs = more_logs s old mid new a.groups b.groups going a.logs b.logs;

@@ -1,6 +1,7 @@
 -- What one group on blocks of rows and the header of one table slot leaves of all headers and their books.
 use Rattle.std.proofs.Common.{◌≡◌, ◌≢◌, ◌-◌, ◌/◌, inl, inr, ℕ, zero, suc, List, [], ◌∷◌, map, get_or, set, refl, sym, ◌∙◌, ap, subst}
 use Rattle.std.proofs.lemmas.Bool.{cases_eq}
+use Rattle.rb_base.specs.declared.sizes.TheConstants.{SLOTS}
 use Rattle.rb_base.specs.declared.shape.Shape.{Shape}
 use Rattle.rb_base.specs.declared.ids.Uba.{Uba}
 use Rattle.rb_model.specs.Book.{BookSlot}
@@ -14,13 +15,13 @@ use Rattle.rb_txntable.specs.declared.slots.TheConstants.{ENDED}
 use Rattle.law_blocks.specs.Groups.{GroupOn, header_at}
 use Rattle.law_blocks.proofs.SegmentRead.{RowsOrHeader, header_is, segments_off}
 
-module _ (shape : Shape) (t : ℕ) (Is : ℕ → Type 0) (before now : List (List ℕ)) (group : GroupOn shape Is before now) (only : (b : ℕ) → Is b → RowsOrHeader shape (t / 16) b) where
-  header_off : (g : ℕ) → g ≢ t / 16 → header_in shape now g ≡ header_in shape before g
-  header_off g ne = sym (header_is shape now g) ∙ (ap (λ (s : Segment). s.header) (segments_off shape Is before now group (t / 16) only g ne) ∙ header_is shape before g)
+module _ (shape : Shape) (t : ℕ) (Is : ℕ → Type 0) (before now : List (List ℕ)) (group : GroupOn shape Is before now) (only : (b : ℕ) → Is b → RowsOrHeader shape (t / SLOTS) b) where
+  header_off : (g : ℕ) → g ≢ t / SLOTS → header_in shape now g ≡ header_in shape before g
+  header_off g ne = sym (header_is shape now g) ∙ (ap (λ (s : Segment). s.header) (segments_off shape Is before now group (t / SLOTS) only g ne) ∙ header_is shape before g)
 
   -- where the one header tells the same book, all do
   pub books_same : found_book (header_at shape now t) ≡ found_book (header_at shape before t) → SameBooks shape before now
-  books_same same g g_in = elim (cases_eq g (t / 16)) [
+  books_same same g g_in = elim (cases_eq g (t / SLOTS)) [
     | inl at ↦ subst (λ (z : ℕ). found_book (header_in shape now z) ≡ found_book (header_in shape before z)) (sym at) same
     | inr ne ↦ ap found_book (header_off g ne)
   ]

@@ -1,5 +1,6 @@
 -- What a call that ends a slot says, in blocks that may be rolled back and in any others.
 use Rattle.std.proofs.Common.{◌≡◌, ◌<◌, ◌+◌, ◌*◌, ℕ, Bool, Some, List, [], ◌∷◌, sym, ◌∙◌, ap, subst, arith}
+use Rattle.rb_base.specs.declared.sizes.TheConstants.{SLOTS}
 use Rattle.rb_base.specs.Blocks.{after_group, block_of, header_block, written_to, AreBlocks, IsShape}
 use Rattle.rb_base.specs.Groups.{Patch}
 use Rattle.rb_base.specs.Logs.{Logs}
@@ -16,12 +17,12 @@ use Rattle.rb_undo.specs.Backs.{header_for}
 
 module _ {S : Type 0} (s : Ghosts S) (shape : Shape) (x : Xid) (old new : S) where
   abbrev pub Ends : List (List ℕ) → Type 0
-  Ends now = HasLive shape (s.blocks old) x 0 → IsIdle shape now (16 * x.seg + x.slot)
+  Ends now = HasLive shape (s.blocks old) x 0 → IsIdle shape now (SLOTS * x.seg + x.slot)
 
   -- the group was logged
   module _ (group : List Patch) (header : List ℕ) (group_is : group ≡ slot_patches (header_block shape x.seg) x.slot (header_of header))
       (copied : s.tells → header ≡ written_to (header_block shape x.seg) (slot_patches (header_block shape x.seg) x.slot (header_of header)) (block_of (s.blocks old) (header_block shape x.seg)))
-      (moved : s.tells → header_of header ≡ ended x.slot (header_for shape (s.blocks old) x)) (shaped : IsShape shape) (there : x.seg < shape.segments) (few : x.slot < 16)
+      (moved : s.tells → header_of header ≡ ended x.slot (header_for shape (s.blocks old) x)) (shaped : IsShape shape) (there : x.seg < shape.segments) (few : x.slot < SLOTS)
       (whole : s.tells → AreBlocks shape (s.blocks old)) (has : s.tells → HasLive shape (s.blocks old) x 0) where
     ended_group : s.tells → group ≡ end_group shape (s.blocks old) x
     ended_group told = group_is ∙ ap (slot_patches (header_block shape x.seg) x.slot) (moved told)

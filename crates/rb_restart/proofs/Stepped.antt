@@ -1,6 +1,7 @@
 -- What one call that puts back a change says, in blocks that may be rolled back and in any others.
 use Rattle.std.proofs.Common.{◌≡◌, ◌⊎◌, ◌<◌, ◌≤◌, ◌+◌, ◌-◌, inl, inr, ℕ, Bool, true, false, not, Result, Ok, Err, OnOk, List, [], ◌∷◌, length, refl, sym, ◌∙◌, ap, subst, arith}
 use Rattle.std.specs.Result.{is_err}
+use Rattle.rb_base.specs.declared.sizes.TheConstants.{SLOTS}
 use Rattle.rb_base.specs.Blocks.{after_groups, IsShape}
 use Rattle.rb_base.specs.Groups.{Patch}
 use Rattle.rb_base.specs.Logs.{Logs}
@@ -41,7 +42,7 @@ says s shape x old new (Err fault) logs put_back = record {
   rose = λ told goes can. let clash : false ≡ true = goes in absurd cc;
 }
 
-module _ {S : Type 0} (s : Ghosts S) (shape : Shape) (x : Xid) (old new : S) (there : x.seg < shape.segments) (few : x.slot < 16) where
+module _ {S : Type 0} (s : Ghosts S) (shape : Shape) (x : Xid) (old new : S) (there : x.seg < shape.segments) (few : x.slot < SLOTS) where
   -- where a group was logged, the transaction has one live change less
   pub less : (says : Says s shape x old new true) → s.tells → s.lsn old < s.lsn new → (n : ℕ) → HasLive shape (s.blocks old) x (n + 1) → HasLive shape (s.blocks new) x n
   less says told up n live = elim (says.kinds told) [

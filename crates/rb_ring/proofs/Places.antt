@@ -3,6 +3,8 @@ use Rattle.std.proofs.Common.{◌≡◌, ◌≢◌, ℕ, ◌+◌, ◌<◌, ◌�
 use Rattle.std.proofs.lemmas.Bool.{cases_lt}
 use Rattle.std.proofs.lemmas.Bool.Decides.{eqb_tells}
 use Rattle.std.proofs.lemmas.List.{drop_at, drop-drop, length-take-le}
+use Rattle.rb_base.specs.declared.sizes.TheConstants.{UNIT}
+use Rattle.rb_ring.specs.declared.extents.TheConstants.{EXTENTS, HEAD_AT, LOST_AT, RECORDS_AT, WRITES_AT}
 use Rattle.byteorder.specs.Endian.{big_bytes, big_number}
 use Rattle.byteorder.specs.Numbers.{big_number-reads_back}
 use Rattle.rb_base.proofs.Apart.{number_apart, byte_apart}
@@ -14,7 +16,7 @@ use Rattle.rb_ring.specs.declared.extents.Extent.{Extent}
 use Rattle.rb_ring.specs.Written.{ExtentWritten, HeadWritten, RecordCountWritten, LostWritten}
 use Rattle.rb_ring.specs.Written.{ChangesOnly, ExtentApart, HeadApart, RecordCountApart, LostApart}
 
-only : (old : List ℕ) (at count : ℕ) (bytes : List ℕ) → length old ≡ 2048 → at + count ≤ 2048 → length bytes ≡ count → ChangesOnly at count old (overwritten old at bytes)
+only : (old : List ℕ) (at count : ℕ) (bytes : List ℕ) → length old ≡ UNIT → at + count ≤ UNIT → length bytes ≡ count → ChangesOnly at count old (overwritten old at bytes)
 only old at count bytes long within size_is =
     let inside : at + length bytes ≤ length old = omega (arith, long, within, size_is) in
     record {
@@ -28,13 +30,13 @@ pub extent_only : ExtentApart
 extent_only header e x long lt = only header (extent_place e) 16 (extent_bytes x) long (omega arith) refl
 
 pub head_only : HeadApart
-head_only header h k long = only header 1312 4 (head_bytes h k) long (omega arith) refl
+head_only header h k long = only header HEAD_AT 4 (head_bytes h k) long (omega arith) refl
 
 pub record_count_only : RecordCountApart
-record_count_only header n long = only header 1320 8 (big_bytes 8 n) long (omega arith) refl
+record_count_only header n long = only header WRITES_AT 8 (big_bytes 8 n) long (omega arith) refl
 
 pub lost_only : LostApart
-lost_only header c long = only header 1328 8 (big_bytes 8 c) long (omega arith) refl
+lost_only header c long = only header LOST_AT 8 (big_bytes 8 c) long (omega arith) refl
 
 -- a number at a place of what was written
 drop_written : (old : List ℕ) (at : ℕ) (bytes : List ℕ) → at + length bytes ≤ length old → drop at (overwritten old at bytes) ≡ bytes ++ drop (at + length bytes) old
@@ -51,12 +53,12 @@ extent_same : (a b : Extent) → a.ord ≡ b.ord → a.newest ≡ b.newest → a
 extent_same a b ord newest = let one : a ≡ record { ord = b.ord; newest = a.newest } = ap (λ (o : ℕ). record { ord = o; newest = a.newest }) ord in one ∙ ap (λ (n : ℕ). record { ord = b.ord; newest = n }) newest
 
 -- what changes outside of the extents leaves them
-extents_kept : (header new : List ℕ) (at count : ℕ) → 1312 ≤ at → ChangesOnly at count header new → (e : ℕ) → e < 8 → extent_at new e ≡ extent_at header e
+extents_kept : (header new : List ℕ) (at count : ℕ) → HEAD_AT ≤ at → ChangesOnly at count header new → (e : ℕ) → e < EXTENTS → extent_at new e ≡ extent_at header e
 unfolding extent_ord extent_newest
 extents_kept header new at count behind changes e lt =
     extent_same (extent_at new e) (extent_at header e) (changes.numbers (extent_place e) 8 (inl (omega arith))) (changes.numbers (extent_place e + 8) 8 (inl (omega arith)))
 
-extent_own : (header : List ℕ) (e : ℕ) (x : Extent) → length header ≡ 2048 → e < 8 → IsExtent x → extent_at (with_extent header e x) e ≡ x
+extent_own : (header : List ℕ) (e : ℕ) (x : Extent) → length header ≡ UNIT → e < EXTENTS → IsExtent x → extent_at (with_extent header e x) e ≡ x
 unfolding extent_ord extent_newest
 extent_own header e x long lt fits =
     let at = extent_place e in
@@ -67,7 +69,7 @@ extent_own header e x long lt fits =
     (number_in header at 0 at 8 bytes inside (omega arith) ∙ big_number-reads_back 8 x.ord (big_bytes 8 x.newest ++ rest) fits.ord)
     (number_in header at 8 (at + 8) 8 bytes inside refl ∙ big_number-reads_back 8 x.newest rest fits.newest)
 
-extent_other : (header : List ℕ) (e f : ℕ) (x : Extent) → length header ≡ 2048 → e < 8 → f < 8 → f ≢ e → extent_at (with_extent header e x) f ≡ extent_at header f
+extent_other : (header : List ℕ) (e f : ℕ) (x : Extent) → length header ≡ UNIT → e < EXTENTS → f < EXTENTS → f ≢ e → extent_at (with_extent header e x) f ≡ extent_at header f
 unfolding extent_ord extent_newest
 extent_other header e f x long lt f_lt other =
     let changes = extent_only header e x long lt in
@@ -84,48 +86,48 @@ extent_written header e x long lt fits =
         | inl (test, same) ↦ rw test (ap (extent_at (with_extent header e x)) same ∙ extent_own header e x long lt fits)
         | inr (test, other) ↦ rw test (extent_other header e f x long lt f_lt other)
       ];
-      head = changes.numbers 1312 2 (inr (omega arith));
-      records = changes.numbers 1314 2 (inr (omega arith));
-      writes = changes.numbers 1320 8 (inr (omega arith));
-      lost = changes.numbers 1328 8 (inr (omega arith));
+      head = changes.numbers HEAD_AT 2 (inr (omega arith));
+      records = changes.numbers RECORDS_AT 2 (inr (omega arith));
+      writes = changes.numbers WRITES_AT 8 (inr (omega arith));
+      lost = changes.numbers LOST_AT 8 (inr (omega arith));
     }
 
 pub head_written : HeadWritten
 unfolding head_extent head_records record_count lost_number
 head_written header h k long h_fits k_fits =
     let changes = head_only header h k long in
-    let rest = drop 1316 header in
-    let inside : 1316 ≤ length header = omega (arith, long) in
+    let rest = drop (HEAD_AT + 4) header in
+    let inside : (HEAD_AT + 4) ≤ length header = omega (arith, long) in
     record {
-      extents = extents_kept header (with_head header h k) 1312 4 (omega arith) changes;
-      head = number_in header 1312 0 1312 2 (head_bytes h k) inside refl ∙ big_number-reads_back 2 h (big_bytes 2 k ++ rest) h_fits;
-      records = number_in header 1312 2 1314 2 (head_bytes h k) inside refl ∙ big_number-reads_back 2 k rest k_fits;
-      writes = changes.numbers 1320 8 (inr (omega arith));
-      lost = changes.numbers 1328 8 (inr (omega arith));
+      extents = extents_kept header (with_head header h k) HEAD_AT 4 (omega arith) changes;
+      head = number_in header HEAD_AT 0 HEAD_AT 2 (head_bytes h k) inside refl ∙ big_number-reads_back 2 h (big_bytes 2 k ++ rest) h_fits;
+      records = number_in header HEAD_AT 2 RECORDS_AT 2 (head_bytes h k) inside refl ∙ big_number-reads_back 2 k rest k_fits;
+      writes = changes.numbers WRITES_AT 8 (inr (omega arith));
+      lost = changes.numbers LOST_AT 8 (inr (omega arith));
     }
 
 pub record_count_written : RecordCountWritten
 unfolding head_extent head_records record_count lost_number
 record_count_written header n long fits =
     let changes = record_count_only header n long in
-    let inside : 1328 ≤ length header = omega (arith, long) in
+    let inside : LOST_AT ≤ length header = omega (arith, long) in
     record {
-      extents = extents_kept header (with_record_count header n) 1320 8 (omega arith) changes;
-      head = changes.numbers 1312 2 (inl (omega arith));
-      records = changes.numbers 1314 2 (inl (omega arith));
-      writes = number_in header 1320 0 1320 8 (big_bytes 8 n) inside refl ∙ big_number-reads_back 8 n (drop 1328 header) fits;
-      lost = changes.numbers 1328 8 (inr (omega arith));
+      extents = extents_kept header (with_record_count header n) WRITES_AT 8 (omega arith) changes;
+      head = changes.numbers HEAD_AT 2 (inl (omega arith));
+      records = changes.numbers RECORDS_AT 2 (inl (omega arith));
+      writes = number_in header WRITES_AT 0 WRITES_AT 8 (big_bytes 8 n) inside refl ∙ big_number-reads_back 8 n (drop LOST_AT header) fits;
+      lost = changes.numbers LOST_AT 8 (inr (omega arith));
     }
 
 pub lost_written : LostWritten
 unfolding head_extent head_records record_count lost_number
 lost_written header c long fits =
     let changes = lost_only header c long in
-    let inside : 1336 ≤ length header = omega (arith, long) in
+    let inside : (LOST_AT + 8) ≤ length header = omega (arith, long) in
     record {
-      extents = extents_kept header (with_lost header c) 1328 8 (omega arith) changes;
-      head = changes.numbers 1312 2 (inl (omega arith));
-      records = changes.numbers 1314 2 (inl (omega arith));
-      writes = changes.numbers 1320 8 (inl (omega arith));
-      lost = number_in header 1328 0 1328 8 (big_bytes 8 c) inside refl ∙ big_number-reads_back 8 c (drop 1336 header) fits;
+      extents = extents_kept header (with_lost header c) LOST_AT 8 (omega arith) changes;
+      head = changes.numbers HEAD_AT 2 (inl (omega arith));
+      records = changes.numbers RECORDS_AT 2 (inl (omega arith));
+      writes = changes.numbers WRITES_AT 8 (inl (omega arith));
+      lost = number_in header LOST_AT 0 LOST_AT 8 (big_bytes 8 c) inside refl ∙ big_number-reads_back 8 c (drop (LOST_AT + 8) header) fits;
     }

@@ -3,6 +3,9 @@
 use Rattle.std.proofs.Common.{◌≡◌, inl, inr, ◌<◌, ◌≤◌, ◌+◌, ◌-◌, ◌*◌, ◌/◌, ◌%◌, ℕ, List, length, get_or, Option, Some, None, refl, sym, ◌∙◌, ap, subst, arith}
 use Rattle.std.proofs.Math.Nat.{div-add-mod, mod-lt}
 use Rattle.std.proofs.lemmas.List.FromFn.{get_or-map-range_with_len}
+use Rattle.rb_undoblock.specs.declared.record.TheConstants.{UNDO_RECORDS}
+use Rattle.rb_base.specs.declared.sizes.TheConstants.{SEGMENT_BLOCKS}
+use Rattle.rb_ring.specs.declared.extents.TheConstants.{EXTENTS, EXTENT_RECORDS}
 use Rattle.rb_base.specs.Blocks.{block_of, header_block, table_blocks}
 use Rattle.rb_base.specs.declared.ids.Uba.{Uba}
 use Rattle.rb_base.specs.declared.shape.Shape.{Shape}
@@ -16,48 +19,48 @@ use Rattle.rb_segment.proofs.Records.{found, made_of, some_cases, turned_others,
 use Rattle.rb_undoblock.specs.Undo.{undo_at, no_undo}
 use Rattle.rb_undoblock.specs.declared.record.UndoRecord.{UndoRecord}
 
-thirty_three : 0 < 33
+thirty_three : 0 < SEGMENT_BLOCKS
 thirty_three = omega arith
 
 four : 0 < 4
 four = omega arith
 
-ten : 0 < 10
+ten : 0 < UNDO_RECORDS
 ten = omega arith
 
 -- block j of extent e of segment g
-pub block_tells : (shape : Shape) (g e j block : ℕ) → block ≡ header_block shape g + 1 + 4 * e + j → e < 8 → j < 4 → ((block - table_blocks shape) / 33 ≡ g) × (((block - table_blocks shape) % 33 - 1) % 4 ≡ j)
+pub block_tells : (shape : Shape) (g e j block : ℕ) → block ≡ header_block shape g + 1 + 4 * e + j → e < EXTENTS → j < 4 → ((block - table_blocks shape) / SEGMENT_BLOCKS ≡ g) × (((block - table_blocks shape) % SEGMENT_BLOCKS - 1) % 4 ≡ j)
 block_tells shape g e j block at e_few j_few =
-    let is : block - table_blocks shape ≡ 33 * g + (1 + 4 * e + j) = omega (arith, at) in
-    let a = div-add-mod (block - table_blocks shape) 33 in
+    let is : block - table_blocks shape ≡ SEGMENT_BLOCKS * g + (1 + 4 * e + j) = omega (arith, at) in
+    let a = div-add-mod (block - table_blocks shape) SEGMENT_BLOCKS in
     let b = mod-lt (block - table_blocks shape) (thirty_three) in
-    let seg : (block - table_blocks shape) / 33 ≡ g = omega (arith, is, a, b, e_few, j_few) in
-    let rest : (block - table_blocks shape) % 33 - 1 ≡ 4 * e + j = omega (arith, is, a, b, seg, e_few, j_few) in
-    let c = div-add-mod ((block - table_blocks shape) % 33 - 1) 4 in
-    let d = mod-lt ((block - table_blocks shape) % 33 - 1) (four) in
+    let seg : (block - table_blocks shape) / SEGMENT_BLOCKS ≡ g = omega (arith, is, a, b, e_few, j_few) in
+    let rest : (block - table_blocks shape) % SEGMENT_BLOCKS - 1 ≡ 4 * e + j = omega (arith, is, a, b, seg, e_few, j_few) in
+    let c = div-add-mod ((block - table_blocks shape) % SEGMENT_BLOCKS - 1) 4 in
+    let d = mod-lt ((block - table_blocks shape) % SEGMENT_BLOCKS - 1) (four) in
     (seg, omega (arith, rest, c, d, j_few))
 
 -- the segment, and the number of the record, counted from 1
-pub next_address_tells : (shape : Shape) (g : ℕ) (h : Header) → Ring h → h.records < 40
-    → (((next_address shape g h).block - table_blocks shape) / 33 ≡ g) × (40 * ((next_address shape g h).ord - 2) + 10 * ((((next_address shape g h).block - table_blocks shape) % 33 - 1) % 4) + (next_address shape g h).rec + 1 ≡ h.writes + 1)
+pub next_address_tells : (shape : Shape) (g : ℕ) (h : Header) → Ring h → h.records < EXTENT_RECORDS
+    → (((next_address shape g h).block - table_blocks shape) / SEGMENT_BLOCKS ≡ g) × (EXTENT_RECORDS * ((next_address shape g h).ord - 2) + UNDO_RECORDS * ((((next_address shape g h).block - table_blocks shape) % SEGMENT_BLOCKS - 1) % 4) + (next_address shape g h).rec + 1 ≡ h.writes + 1)
 next_address_tells shape g h ring few =
-    let a = div-add-mod h.records 10 in
+    let a = div-add-mod h.records UNDO_RECORDS in
     let b = mod-lt h.records (ten) in
-    let p = div-add-mod (next_place h) 10 in
+    let p = div-add-mod (next_place h) UNDO_RECORDS in
     let q = mod-lt (next_place h) (ten) in
-    let quotient : next_place h / 10 ≡ 4 * h.head + h.records / 10 = omega (arith, a, b, p, q) in
-    let rest : next_place h % 10 ≡ h.records % 10 = omega (arith, a, b, p, q, quotient) in
-    let at : undo_block shape g (next_place h) ≡ header_block shape g + 1 + 4 * h.head + h.records / 10 = omega (arith, quotient) in
-    let t = block_tells shape g h.head (h.records / 10) (undo_block shape g (next_place h)) at ring.head_in (omega (arith, a, b, few)) in
+    let quotient : next_place h / UNDO_RECORDS ≡ 4 * h.head + h.records / UNDO_RECORDS = omega (arith, a, b, p, q) in
+    let rest : next_place h % UNDO_RECORDS ≡ h.records % UNDO_RECORDS = omega (arith, a, b, p, q, quotient) in
+    let at : undo_block shape g (next_place h) ≡ header_block shape g + 1 + 4 * h.head + h.records / UNDO_RECORDS = omega (arith, quotient) in
+    let t = block_tells shape g h.head (h.records / UNDO_RECORDS) (undo_block shape g (next_place h)) at ring.head_in (omega (arith, a, b, few)) in
     (t.0, omega (arith, t.1, a, b, rest, ring.count, ring.second))
 
 -- the address of the next record is one, also once the record is added
-pub next_address_is : (shape : Shape) (g : ℕ) (h : Header) → Ring h → h.records < 40 → IsAddress shape g h (next_address shape g h)
+pub next_address_is : (shape : Shape) (g : ℕ) (h : Header) → Ring h → h.records < EXTENT_RECORDS → IsAddress shape g h (next_address shape g h)
 next_address_is shape g h ring few =
-    let p = div-add-mod (next_place h) 10 in
+    let p = div-add-mod (next_place h) UNDO_RECORDS in
     let q = mod-lt (next_place h) (ten) in
-    let c = div-add-mod (next_place h / 10) 4 in
-    let d = mod-lt (next_place h / 10) (four) in
+    let c = div-add-mod (next_place h / UNDO_RECORDS) 4 in
+    let d = mod-lt (next_place h / UNDO_RECORDS) (four) in
     record {
       behind = omega arith;
       within = omega (arith, p, q, ring.head_in, few);
@@ -67,8 +70,8 @@ next_address_is shape g h ring few =
       extent = λ e at.
           let f : (e < length h.extents) × (ord_in h e ≡ head_turn h) = found h.extents (head_turn h) e at in
           let one : e ≡ h.head = ring.apart e h.head (omega (arith, f.1, ring.second)) (f.1) in
-          let place : (undo_block shape g (next_place h) - header_block shape g - 1) ≡ next_place h / 10 = omega arith in
-          let here : (next_place h / 10) / 4 ≡ h.head = omega (arith, p, q, c, d, few) in
+          let place : (undo_block shape g (next_place h) - header_block shape g - 1) ≡ next_place h / UNDO_RECORDS = omega arith in
+          let here : (next_place h / UNDO_RECORDS) / 4 ≡ h.head = omega (arith, p, q, c, d, few) in
           one ∙ (sym here ∙ ap (λ (z : ℕ). z / 4) (sym place));
     }
 
@@ -107,10 +110,10 @@ address_turned shape g e h u ring may a = address_later shape g h (turned e h) u
 
 -- which place of its segment an address names
 abbrev pub place_read : Shape → ℕ → Uba → ℕ
-place_read shape g u = 40 * ((u.block - header_block shape g - 1) / 4) + 10 * ((u.block - header_block shape g - 1) % 4) + u.rec
+place_read shape g u = EXTENT_RECORDS * ((u.block - header_block shape g - 1) / 4) + UNDO_RECORDS * ((u.block - header_block shape g - 1) % 4) + u.rec
 
 -- a record that is found under the turn and position of an address stands where the address says
-pub address_reads : (shape : Shape) (g : ℕ) (s : Segment) (u : Uba) (k : ℕ) (r : UndoRecord) → IsAddress shape g s.header u → turn_of k ≡ u.ord → position_of k ≡ 10 * ((u.block - header_block shape g - 1) % 4) + u.rec → record_in s k ≡ Some r → get_or s.undo (place_read shape g u) no_undo ≡ r
+pub address_reads : (shape : Shape) (g : ℕ) (s : Segment) (u : Uba) (k : ℕ) (r : UndoRecord) → IsAddress shape g s.header u → turn_of k ≡ u.ord → position_of k ≡ UNDO_RECORDS * ((u.block - header_block shape g - 1) % 4) + u.rec → record_in s k ≡ Some r → get_or s.undo (place_read shape g u) no_undo ≡ r
 address_reads shape g s u k r a turn position is =
     let m : undo_in s.undo (position_of k) (extent_with s.header.extents (turn_of k)) ≡ Some r = (made_of s k r is).2 in
     at_place (extent_with s.header.extents u.ord) refl (subst (λ (z : ℕ). undo_in s.undo (position_of k) (extent_with s.header.extents z) ≡ Some r) turn m)
@@ -119,24 +122,24 @@ address_reads shape g s u k r a turn position is =
     at_place None was there = let wrong : None ≡ Some r = there in absurd (cc)
     at_place (Some e) was there =
         let e_is : e ≡ (u.block - header_block shape g - 1) / 4 = a.extent e was in
-        let place : place_read shape g u ≡ 40 * e + position_of k = omega (arith, e_is, position) in
-        let one : Some (get_or s.undo (40 * e + position_of k) no_undo) ≡ Some r = there in
-        let same : get_or s.undo (40 * e + position_of k) no_undo ≡ r = cc in
+        let place : place_read shape g u ≡ EXTENT_RECORDS * e + position_of k = omega (arith, e_is, position) in
+        let one : Some (get_or s.undo (EXTENT_RECORDS * e + position_of k) no_undo) ≡ Some r = there in
+        let same : get_or s.undo (EXTENT_RECORDS * e + position_of k) no_undo ≡ r = cc in
         ap (λ (z : ℕ). get_or s.undo z no_undo) place ∙ same
 
 -- in blocks that is the record that the block of the address has at its position
-pub address_block : (shape : Shape) (blocks : List (List ℕ)) (g : ℕ) (u : Uba) → header_block shape g < u.block → u.block < header_block shape g + 33 → u.rec < 10 → get_or (segment_of shape blocks g).undo (place_read shape g u) no_undo ≡ undo_at (block_of blocks u.block) u.rec
+pub address_block : (shape : Shape) (blocks : List (List ℕ)) (g : ℕ) (u : Uba) → header_block shape g < u.block → u.block < header_block shape g + SEGMENT_BLOCKS → u.rec < UNDO_RECORDS → get_or (segment_of shape blocks g).undo (place_read shape g u) no_undo ≡ undo_at (block_of blocks u.block) u.rec
 unfolding segment_of
 address_block shape blocks g u behind within few =
     let d = u.block - header_block shape g - 1 in
     let a = div-add-mod d 4 in
     let b = mod-lt d (four) in
     let i = place_read shape g u in
-    let i_is : i ≡ 10 * d + u.rec = omega (arith, a) in
+    let i_is : i ≡ UNDO_RECORDS * d + u.rec = omega (arith, a) in
     let p = div-add-mod i 10 in
     let q = mod-lt i (ten) in
-    let quotient : i / 10 ≡ d = omega (arith, i_is, p, q, few) in
-    let rest : i % 10 ≡ u.rec = omega (arith, i_is, p, q, quotient, few) in
+    let quotient : i / UNDO_RECORDS ≡ d = omega (arith, i_is, p, q, few) in
+    let rest : i % UNDO_RECORDS ≡ u.rec = omega (arith, i_is, p, q, quotient, few) in
     let block : undo_block shape g i ≡ u.block = omega (arith, quotient, behind) in
-    get_or-map-range_with_len (λ (z : ℕ). undo_at (block_of blocks (undo_block shape g z)) (z % 10)) 0 320 i i no_undo (omega (arith, i_is, within, few)) (omega arith)
-    ∙ (ap (λ (z : ℕ). undo_at (block_of blocks z) (i % 10)) block ∙ ap (λ (z : ℕ). undo_at (block_of blocks u.block) z) rest)
+    get_or-map-range_with_len (λ (z : ℕ). undo_at (block_of blocks (undo_block shape g z)) (z % UNDO_RECORDS)) 0 (EXTENTS * EXTENT_RECORDS) i i no_undo (omega (arith, i_is, within, few)) (omega arith)
+    ∙ (ap (λ (z : ℕ). undo_at (block_of blocks z) (i % UNDO_RECORDS)) block ∙ ap (λ (z : ℕ). undo_at (block_of blocks u.block) z) rest)

@@ -4,6 +4,8 @@ use Rattle.std.specs.List.{list_any}
 use Rattle.std.proofs.lemmas.Bool.{cases_eq, cases_lt}
 use Rattle.std.proofs.lemmas.Bool.Decides.{nat_tests}
 use Rattle.std.proofs.lemmas.List.{get_or-set_same, get_or-set_other, length-set, get_or_past, length-append}
+use Rattle.rb_base.specs.declared.sizes.TheConstants.{SLOTS}
+use Rattle.rb_ring.specs.declared.extents.TheConstants.{EXTENTS, EXTENT_RECORDS}
 use Rattle.rb_base.specs.declared.ids.Uba.{Uba}
 use Rattle.rb_model.specs.Book.{Owner, Book, BookSlot, free_slot, last_turn, oldest_turn, first_turn, is_pinned, needs_turn, is_full, oldest_number, later_numbers, touches, is_touched, numbered, turn_of}
 use Rattle.rb_ring.specs.Ring.{IsRing}
@@ -38,7 +40,7 @@ owned_later h h2 slot slot2 None state start touched ords le is = λ one. is (sy
 owned_later h h2 slot slot2 (Some o) state start touched ords le is = owner_later h h2 slot slot2 o state start touched ords le is
 
 -- what is said of each slot of a header and of its book, where slot i of both is set
-both_set : (P : TableSlot → BookSlot → Type 0) (xs : List TableSlot) (ys : List BookSlot) (i : ℕ) (x : TableSlot) (y : BookSlot) → i < length xs → i < length ys → P x y → ((j : ℕ) → j < 16 → j ≢ i → P (get_or xs j no_slot) (get_or ys j free_slot)) → (j : ℕ) → j < 16 → P (get_or (set xs i x) j no_slot) (get_or (set ys i y) j free_slot)
+both_set : (P : TableSlot → BookSlot → Type 0) (xs : List TableSlot) (ys : List BookSlot) (i : ℕ) (x : TableSlot) (y : BookSlot) → i < length xs → i < length ys → P x y → ((j : ℕ) → j < SLOTS → j ≢ i → P (get_or xs j no_slot) (get_or ys j free_slot)) → (j : ℕ) → j < SLOTS → P (get_or (set xs i x) j no_slot) (get_or (set ys i y) j free_slot)
 both_set P xs ys i x y xs_in ys_in here all j few = elim (cases_eq j i) [
   | inl at ↦ subst (λ (z : ℕ). P (get_or (set xs i x) z no_slot) (get_or (set ys i y) z free_slot)) (sym at) (subst (λ (z : TableSlot). P z (get_or (set ys i y) i free_slot)) (sym (get_or-set_same xs i x no_slot xs_in)) (subst (λ (z : BookSlot). P x z) (sym (get_or-set_same ys i y free_slot ys_in)) here))
   | inr ne ↦ subst (λ (z : TableSlot). P z (get_or (set ys i y) j free_slot)) (sym (get_or-set_other xs i j x no_slot ne)) (subst (λ (z : BookSlot). P (get_or xs j no_slot) z) (sym (get_or-set_other ys i j y free_slot ne)) (all j few ne))
@@ -48,9 +50,9 @@ turn_number_same : (h h2 : Header) → h2.extents ≡ h.extents → (o : Option 
 turn_number_same h h2 same None = refl
 turn_number_same h h2 same (Some e) = ap (λ (z : List Extent). (get_or z e no_extent).newest) same
 
-module _ (h : Header) (b : Book) (book : IsBook h b) (slots : length h.slots ≡ 16) where
+module _ (h : Header) (b : Book) (book : IsBook h b) (slots : length h.slots ≡ SLOTS) where
   -- a slot is taken
-  pub book_taken : (session i : ℕ) → i < 16 → (slot_in h i).state ≢ 1 → IsBook (claimed i h) (model.taken session i b)
+  pub book_taken : (session i : ℕ) → i < SLOTS → (slot_in h i).state ≢ 1 → IsBook (claimed i h) (model.taken session i b)
   book_taken session i few idle = record {
     writes = book.writes;
     lost = let a = book.newest i few in omega (arith, book.lost, a);
@@ -70,7 +72,7 @@ module _ (h : Header) (b : Book) (book : IsBook h b) (slots : length h.slots ≡
           by false not = refl
 
   -- the slot of a transaction that ends without a number
-  pub book_left : (i : ℕ) → i < 16 → IsBook (ended i h) (model.left i b)
+  pub book_left : (i : ℕ) → i < SLOTS → IsBook (ended i h) (model.left i b)
   book_left i few = record {
     writes = book.writes;
     lost = book.lost;
@@ -86,7 +88,7 @@ module _ (h : Header) (b : Book) (book : IsBook h b) (slots : length h.slots ≡
       three n is one = omega (arith, is, one)
 
   -- a put back leaves the book
-  pub book_back : (i : ℕ) (previous : Uba) → i < 16 → IsBook (taken_back i previous h) b
+  pub book_back : (i : ℕ) (previous : Uba) → i < SLOTS → IsBook (taken_back i previous h) b
   book_back i previous few = record {
     writes = book.writes;
     lost = book.lost;
@@ -110,12 +112,12 @@ module _ (h : Header) (b : Book) (book : IsBook h b) (slots : length h.slots ≡
       there : (j : ℕ) → j ≢ i → slot_in (taken_back i previous h) j ≡ slot_in h j
       there j ne = get_or-set_other h.slots i j (let x = slot_in h i in record x { live = x.live - 1; newest_at = previous }) no_slot ne
 
-module _ (h : Header) (b : Book) (book : IsBook h b) (commit : ℕ) (order : HeaderInOrder commit h) (count : h.writes + 80 ≡ 40 * head_turn h + h.records) where
+module _ (h : Header) (b : Book) (book : IsBook h b) (commit : ℕ) (order : HeaderInOrder commit h) (count : h.writes + 2 * EXTENT_RECORDS ≡ EXTENT_RECORDS * head_turn h + h.records) where
   ring_is : Ring h
   ring_is = ring_of h (length b.turns) order.extents_counted book.ring order.records count
 
   -- a record of slot i is added to the head
-  pub book_added : (i : ℕ) (address : Uba) (touched : ℕ) → i < 16 → (slot_in h i).state ≡ 1 → (slot_in h i).start ≤ h.writes → h.records < 40 → Also (slot_in h i).touched h.head touched → IsBook (added i address touched h) (with_mark i b)
+  pub book_added : (i : ℕ) (address : Uba) (touched : ℕ) → i < SLOTS → (slot_in h i).state ≡ 1 → (slot_in h i).start ≤ h.writes → h.records < EXTENT_RECORDS → Also (slot_in h i).touched h.head touched → IsBook (added i address touched h) (with_mark i b)
   book_added i address touched few active started room bits = record {
     writes = omega (arith, book.writes);
     lost = book.lost;
@@ -153,7 +155,7 @@ module _ (h : Header) (b : Book) (book : IsBook h b) (commit : ℕ) (order : Hea
           le : first_turn o ≤ turn_of (b.writes + 1)
           le = div_le o.start (b.writes + 1 - 1) (let a = owned.start in omega (arith, a, started, book.writes))
             where
-              div_le : (x y : ℕ) → x ≤ y → 2 + x / 40 ≤ 2 + y / 40
+              div_le : (x y : ℕ) → x ≤ y → 2 + x / EXTENT_RECORDS ≤ 2 + y / EXTENT_RECORDS
               div_le x y up = omega arith
 
 numbered_at : (n turn : ℕ) (o : Option Owner) (ts : List ℕ) (k : ℕ) → k < length ts → get_or (numbered n turn o ts) k 0 ≡ (if is_touched (turn + k) o then n else get_or ts k 0)
@@ -165,9 +167,9 @@ length_numbered : (n turn : ℕ) (o : Option Owner) (ts : List ℕ) → length (
 length_numbered n turn o [] = refl
 length_numbered n turn o (m ∷ ts) = let h : length (numbered n (turn + 1) o ts) ≡ length ts = length_numbered n (turn + 1) o ts in omega arith
 
-module _ (h : Header) (b : Book) (book : IsBook h b) (commit : ℕ) (order : HeaderInOrder commit h) (count : h.writes + 80 ≡ 40 * head_turn h + h.records) (begun : h.records ≡ 0 → h.writes ≡ 0) where
+module _ (h : Header) (b : Book) (book : IsBook h b) (commit : ℕ) (order : HeaderInOrder commit h) (count : h.writes + 2 * EXTENT_RECORDS ≡ EXTENT_RECORDS * head_turn h + h.records) (begun : h.records ≡ 0 → h.writes ≡ 0) where
   -- the transaction of slot i commits
-  module _ (n i : ℕ) (few : i < 16) (active : (slot_in h i).state ≡ 1) where
+  module _ (n i : ℕ) (few : i < SLOTS) (active : (slot_in h i).state ≡ 1) where
     abbrev Done : Header
     Done = committed n i h
 
@@ -187,7 +189,7 @@ module _ (h : Header) (b : Book) (book : IsBook h b) (commit : ℕ) (order : Hea
     kept_same = length_numbered n (oldest_turn b) OwnerOf b.turns
 
     -- a turn that the owner touched has the extent's bit
-    touched_is : (turn e : ℕ) → e < 8 → ord_in h e ≡ turn → is_touched turn OwnerOf ≡ has_bit (slot_in h i).touched e
+    touched_is : (turn e : ℕ) → e < EXTENTS → ord_in h e ≡ turn → is_touched turn OwnerOf ≡ has_bit (slot_in h i).touched e
     touched_is turn e e_few ord = by OwnerOf (book.owners i few)
       where
         by : (o : Option Owner) → IsOwned h (slot_in h i) o → is_touched turn o ≡ has_bit (slot_in h i).touched e
@@ -238,11 +240,11 @@ module _ (h : Header) (b : Book) (book : IsBook h b) (commit : ℕ) (order : Hea
     ring : Ring h
     ring = ring_of h Kept order.extents_counted book.ring order.records count
 
-    full : h.records ≡ 40
+    full : h.records ≡ EXTENT_RECORDS
     full = may_full h e may order.records
 
     needs : needs_turn b ≡ true
-    needs = needs_is h b book commit order count begun ∙ (let test : (h.records == 40) ≡ true = grind (arith, nat_tests) in test)
+    needs = needs_is h b book commit order count begun ∙ (let test : (h.records == EXTENT_RECORDS) ≡ true = grind (arith, nat_tests) in test)
 
     oldest_at : (f : ℕ) × (extent_with h.extents Oldest ≡ Some f) × (f < Kept) × (ord_in h f ≡ Oldest)
     oldest_at = oldest_extent h b book commit order count begun
@@ -331,7 +333,7 @@ module _ (h : Header) (b : Book) (book : IsBook h b) (commit : ℕ) (order : Hea
             let value : get_or b.turns 0 0 ≡ turn_number h (extent_with h.extents Oldest) = subst (λ (z : ℕ). get_or b.turns 0 0 ≡ turn_number h (extent_with h.extents z)) same t in
             get_front b.turns ∙ (value ∙ (ap (turn_number h) oldest_at.1 ∙ ap (λ (z : ℕ). (extent_in h z).newest) e_is))
 
-        unnamed : (j : ℕ) → j < 16 → (w : Owner) → IsOwner h (slot_in h j) w → list_any (λ t. t == ord_in h e) w.touched ≡ false
+        unnamed : (j : ℕ) → j < SLOTS → (w : Owner) → IsOwner h (slot_in h j) w → list_any (λ t. t == ord_in h e) w.touched ≡ false
         unnamed j few w is = elim (cases_eq (slot_in h j).touched 0) [
           | inl none ↦ is.touched e may.within ∙ (ap (λ (z : ℕ). has_bit z e) none ∙ bit_none (has_bit 0 e) (has_none e))
           | inr some ↦
@@ -341,7 +343,7 @@ module _ (h : Header) (b : Book) (book : IsBook h b) (commit : ℕ) (order : Hea
               let up : Oldest ≤ ord_in h f.1.0 = least f.1.0 (omega (arith, at.1, first_is)) in
               let ne = may_free h e may order.slots_counted in_ring j is.state some in
               let back : w.start ≡ (slot_in h j).start + 1 - 1 = let a = is.start in omega (arith, a) in
-              let turn : first_turn w ≡ (slot_in h j).first = ap (λ (z : ℕ). 2 + z / 40) back ∙ sym first_is in
+              let turn : first_turn w ≡ (slot_in h j).first = ap (λ (z : ℕ). 2 + z / EXTENT_RECORDS) back ∙ sym first_is in
               none_out (first_turn w) (head_turn h) (ord_in h e) w.touched is.within (inl (omega (arith, up, at.1, turn, ord_e, ne)))
         ]
           where

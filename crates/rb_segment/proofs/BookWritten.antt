@@ -2,6 +2,8 @@
 use Rattle.std.proofs.Common.{◌≡◌, ◌≢◌, ◌⊎◌, inl, inr, ◌<◌, ◌≤◌, ◌==◌, ◌+◌, ◌*◌, ℕ, true, false, Some, refl, sym, ◌∙◌, ap, subst, arith}
 use Rattle.std.proofs.lemmas.Bool.{cases_eq}
 use Rattle.std.proofs.lemmas.Bool.Decides.{nat_tests}
+use Rattle.rb_base.specs.declared.sizes.TheConstants.{SLOTS}
+use Rattle.rb_ring.specs.declared.extents.TheConstants.{EXTENT_RECORDS}
 use Rattle.rb_base.specs.declared.ids.Uba.{Uba}
 use Rattle.rb_model.specs.Book.{Book, needs_turn, is_pinned, is_full, turn_of}
 use Rattle.rb_segment.specs.Books.{IsBook}
@@ -17,7 +19,7 @@ use Rattle.rb_segment.proofs.Recording.{claimed_other}
 use Rattle.rb_segment.proofs.SegmentWritten.{claimed_order, turned_order, ready, room, room_slot, going_slot, slot_claimed}
 use Rattle.rb_model.specs.Book as model
 
-module _ (s : Segment) (i : ℕ) (address : Uba) (u : UndoRecord) (s2 : Segment) (records : Records s i address u s2) (commit logged : ℕ) (order : SegmentInOrder commit logged s) (within : i < 16) (keeps : (j : ℕ) → (slot_in s.header j).state ≡ 1 → KeepsRecords s j) (running : (j : ℕ) → (slot_in s.header j).state ≡ 1 → RunningSlot s.header (slot_in s.header j)) (of : u.slot ≡ i) (wrap : u.wrap ≡ (slot_in s2.header i).wrap) (session : ℕ) (b : Book) (book : IsBook s.header b) where
+module _ (s : Segment) (i : ℕ) (address : Uba) (u : UndoRecord) (s2 : Segment) (records : Records s i address u s2) (commit logged : ℕ) (order : SegmentInOrder commit logged s) (within : i < SLOTS) (keeps : (j : ℕ) → (slot_in s.header j).state ≡ 1 → KeepsRecords s j) (running : (j : ℕ) → (slot_in s.header j).state ≡ 1 → RunningSlot s.header (slot_in s.header j)) (of : u.slot ≡ i) (wrap : u.wrap ≡ (slot_in s2.header i).wrap) (session : ℕ) (b : Book) (book : IsBook s.header b) where
   abbrev Ready : Segment
   Ready = records.ready
 
@@ -46,7 +48,7 @@ module _ (s : Segment) (i : ℕ) (address : Uba) (u : UndoRecord) (s2 : Segment)
     | inr free ↦ (ap (λ (z : Segment). z.header.writes) free.1, ap (λ (z : Segment). z.header.records) free.1, ap (λ (z : Segment). head_turn z.header) free.1)
   ]
 
-  count : Ready.header.writes + 80 ≡ 40 * head_turn Ready.header + Ready.header.records
+  count : Ready.header.writes + 2 * EXTENT_RECORDS ≡ EXTENT_RECORDS * head_turn Ready.header + Ready.header.records
   count = omega (arith, same_ring.0, same_ring.1, same_ring.2, order.numbers.count)
 
   begun : Ready.header.records ≡ 0 → Ready.header.writes ≡ 0
@@ -64,13 +66,13 @@ module _ (s : Segment) (i : ℕ) (address : Uba) (u : UndoRecord) (s2 : Segment)
     ]
   ]
 
-  firsts : (j : ℕ) → j < 16 → (slot_in Ready.header j).state ≡ 1 → (slot_in Ready.header j).touched ≢ 0 → ((slot_in Ready.header j).first ≡ turn_of ((slot_in Ready.header j).start + 1)) × ((f : ℕ) × (extent_with Ready.header.extents (slot_in Ready.header j).first ≡ Some f))
+  firsts : (j : ℕ) → j < SLOTS → (slot_in Ready.header j).state ≡ 1 → (slot_in Ready.header j).touched ≢ 0 → ((slot_in Ready.header j).first ≡ turn_of ((slot_in Ready.header j).start + 1)) × ((f : ℕ) × (extent_with Ready.header.extents (slot_in Ready.header j).first ≡ Some f))
   firsts j few active some = elim (was_active j active) [
     | inl was ↦ let k : KeepsRecords Ready j = ((ready s i address u s2 records commit logged order within keeps running of wrap).keeps j was).1 in (k.first, k.pinned)
     | inr fresh ↦ absurd (some fresh.0)
   ]
 
-  new : (j : ℕ) → j < 16 → (slot_in Ready.header j).state ≡ 1 → (slot_in Ready.header j).touched ≡ 0 → (slot_in Ready.header j).start ≡ Ready.header.writes
+  new : (j : ℕ) → j < SLOTS → (slot_in Ready.header j).state ≡ 1 → (slot_in Ready.header j).touched ≡ 0 → (slot_in Ready.header j).start ≡ Ready.header.writes
   new j few active none = elim (was_active j active) [
     | inl was ↦ absurd ((running j was).begun (ap (λ (z : TableSlot). z.touched) (sym (going_slot s i address u s2 records commit logged order within keeps running of wrap j was)) ∙ none))
     | inr fresh ↦ fresh.1 ∙ sym same_ring.0
@@ -79,7 +81,7 @@ module _ (s : Segment) (i : ℕ) (address : Uba) (u : UndoRecord) (s2 : Segment)
   room_book : IsBook Room.header (model.turned B)
   room_book = elim records.has_room [
     | inl few ↦
-        let no : needs_turn B ≡ false = needs_is Ready.header B ready_book commit ready_order count begun ∙ (let test : (Ready.header.records == 40) ≡ false = let a : Ready.header.records < 40 = few.0 in grind (arith, nat_tests) in test) in
+        let no : needs_turn B ≡ false = needs_is Ready.header B ready_book commit ready_order count begun ∙ (let test : (Ready.header.records == EXTENT_RECORDS) ≡ false = let a : Ready.header.records < EXTENT_RECORDS = few.0 in grind (arith, nat_tests) in test) in
         subst (λ (z : Segment). IsBook z.header (model.turned B)) (sym few.1) (rw no ready_book)
     | inr full ↦ subst (λ (z : Segment). IsBook z.header (model.turned B)) (sym full.2) (book_turned Ready.header B ready_book commit ready_order count begun full.0 full.1 (record { begun = firsts; new = new }))
   ]
@@ -111,7 +113,7 @@ module _ (s : Segment) (i : ℕ) (address : Uba) (u : UndoRecord) (s2 : Segment)
       subst (λ (z : Segment). IsBook z.header (model.marked i B)) (sym records.made) (book_added Room.header (model.turned B) room_book commit room_order r.ring.count i address records.touched within active_now started r.few records.bits)
 
 -- whatever the record says of its transaction
-pub book_of_write : (s : Segment) (i : ℕ) (address : Uba) (u : UndoRecord) (s2 : Segment) → Records s i address u s2 → (commit logged : ℕ) → SegmentInOrder commit logged s → i < 16 → ((j : ℕ) → (slot_in s.header j).state ≡ 1 → KeepsRecords s j) → ((j : ℕ) → (slot_in s.header j).state ≡ 1 → RunningSlot s.header (slot_in s.header j)) → (session : ℕ) (b : Book) → IsBook s.header b → IsBook s2.header (model.marked i (book_ready session i (slot_in s.header i).state b))
+pub book_of_write : (s : Segment) (i : ℕ) (address : Uba) (u : UndoRecord) (s2 : Segment) → Records s i address u s2 → (commit logged : ℕ) → SegmentInOrder commit logged s → i < SLOTS → ((j : ℕ) → (slot_in s.header j).state ≡ 1 → KeepsRecords s j) → ((j : ℕ) → (slot_in s.header j).state ≡ 1 → RunningSlot s.header (slot_in s.header j)) → (session : ℕ) (b : Book) → IsBook s.header b → IsBook s2.header (model.marked i (book_ready session i (slot_in s.header i).state b))
 book_of_write s i address u s2 records commit logged order within keeps running session b book =
     let own : UndoRecord = record u { slot = i; wrap = (slot_in s2.header i).wrap } in
     let s3 : Segment = with_record i address records.touched own records.room in

@@ -2,6 +2,7 @@
 use Rattle.std.proofs.Common.{◌≡◌, ◌≢◌, inl, inr, ◌<◌, ◌+◌, ℕ, length, sym, ◌∙◌, ap, subst, arith}
 use Rattle.std.proofs.lemmas.Bool.{cases_eq}
 use Rattle.std.proofs.lemmas.List.{get_or-set_same}
+use Rattle.rb_base.specs.declared.sizes.TheConstants.{SLOTS}
 use Rattle.rb_model.specs.Book as model
 use Rattle.rb_model.specs.Book.{Book, turn_of}
 use Rattle.rb_segment.specs.Header.{Header, slot_in, extent_with}
@@ -14,7 +15,7 @@ use Rattle.rb_segment.proofs.SegmentWritten.{claimed_order}
 use Rattle.rb_txntable.specs.Slots.{no_slot}
 use Rattle.rb_txntable.specs.declared.slots.TableSlot.{TableSlot}
 
-module _ (h : Header) (i : ℕ) (slots : length h.slots ≡ 16) (few : i < 16) (idle : (slot_in h i).state ≢ 1) where
+module _ (h : Header) (i : ℕ) (slots : length h.slots ≡ SLOTS) (few : i < SLOTS) (idle : (slot_in h i).state ≢ 1) where
   here : slot_in (claimed i h) i ≡ claimed_slot h (slot_in h i)
   here = get_or-set_same h.slots i (claimed_slot h (slot_in h i)) no_slot (omega (arith, few, slots))
 

@@ -2,6 +2,8 @@
 use Rattle.std.proofs.Common.{◌≡◌, inl, inr, ◌<◌, ◌≤◌, ◌+◌, ℕ, length, refl, sym, ◌∙◌, ap, subst, arith}
 use Rattle.std.proofs.lemmas.Bool.{cases_lt}
 use Rattle.std.proofs.lemmas.List.{length-set, get_or_past}
+use Rattle.rb_base.specs.declared.sizes.TheConstants.{SLOTS}
+use Rattle.rb_ring.specs.declared.extents.TheConstants.{EXTENTS}
 use Rattle.rb_ring.specs.Ring.{IsRing}
 use Rattle.rb_ring.specs.declared.extents.Extent.{Extent}
 use Rattle.rb_segment.specs.Header.{Segment, SlotInOrder, SlotNumbers, SegmentInOrder, no_extent, slot_in, extent_in, ord_in}
@@ -11,7 +13,7 @@ use Rattle.rb_segment.proofs.SegmentWritten.{slots_set}
 use Rattle.rb_segment.proofs.Commits.{commit_segment, length_stamped, ord_stamped, newest_stamped}
 
 -- a commit at a number above the file's
-module _ (s : Segment) (i c commit logged : ℕ) (few_i : i < 16) (order : SegmentInOrder commit logged s) (active : (slot_in s.header i).state ≡ 1) (before : (slot_in s.header i).before ≡ (slot_in s.header i).newest) (keeps : KeepsRecords s i) (next : commit < c) (logs : c ≤ logged + 1) where
+module _ (s : Segment) (i c commit logged : ℕ) (few_i : i < SLOTS) (order : SegmentInOrder commit logged s) (active : (slot_in s.header i).state ≡ 1) (before : (slot_in s.header i).before ≡ (slot_in s.header i).newest) (keeps : KeepsRecords s i) (next : commit < c) (logs : c ≤ logged + 1) where
   abbrev Done : Segment
   Done = with_header (committed c i s.header) s
 
@@ -19,7 +21,7 @@ module _ (s : Segment) (i c commit logged : ℕ) (few_i : i < 16) (order : Segme
   within = omega (arith, few_i, order.header.slots_counted)
 
   newest_few : (e : ℕ) → (extent_in s.header e).newest ≤ c
-  newest_few e = elim (cases_lt e 8) [
+  newest_few e = elim (cases_lt e EXTENTS) [
     | inl few ↦ let a = order.header.newest e few in omega (arith, a, next)
     | inr past_it ↦ let none : (extent_in s.header e).newest ≡ 0 = ap (λ (z : Extent). z.newest) (get_or_past s.header.extents e no_extent (omega (arith, past_it, order.header.extents_counted))) in omega (arith, none)
   ]

@@ -3,6 +3,7 @@ use Rattle.std.proofs.Common.{◌≡◌, ◌≢◌, inl, inr, ◌<◌, ◌≤◌
 use Rattle.std.proofs.lemmas.Bool.{cases_eq, cases_lt}
 use Rattle.std.proofs.lemmas.Bool.Decides.{nat_tests}
 use Rattle.std.proofs.lemmas.List.{get_or-set_same, get_or-set_other, length-set}
+use Rattle.rb_base.specs.declared.sizes.TheConstants.{SLOTS}
 use Rattle.rb_model.specs.Book.{turn_of}
 use Rattle.rb_segment.specs.Header.{Segment, SlotInOrder, SlotNumbers, SegmentInOrder, slot_in, extent_with, limit_by}
 use Rattle.rb_segment.specs.Moves.{ended, with_header, SegmentAges}
@@ -84,7 +85,7 @@ module _ (s : Segment) (i : ℕ) (within : i < length s.header.slots) (active : 
     kept = λ j k r ne slot wrap is. is;
   }
 
-  module _ (commit logged : ℕ) (few_i : i < 16) (order : SegmentInOrder commit logged s) where
+  module _ (commit logged : ℕ) (few_i : i < SLOTS) (order : SegmentInOrder commit logged s) where
     pub end_order : SegmentInOrder commit (logged + 1) Ended
     end_order = let o = order.header.slots i few_i in let n = order.numbers.slots i few_i in record {
       header = record {

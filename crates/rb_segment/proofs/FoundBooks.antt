@@ -4,6 +4,7 @@ use Rattle.std.proofs.lemmas.Bool.{cases_eq, cases_lt}
 use Rattle.std.proofs.lemmas.Bool.Decides.{nat_tests}
 use Rattle.std.proofs.lemmas.List.{length-map, get_or-map}
 use Rattle.std.proofs.lemmas.List.FromFn.{length-map-range_with_len, get_or-map-range_with_len}
+use Rattle.rb_base.specs.declared.sizes.TheConstants.{SLOTS}
 use Rattle.rb_model.specs.Book.{BookSlot, free_slot}
 use Rattle.rb_ring.specs.Ring.{IsRing}
 use Rattle.rb_segment.specs.Books.{idle_slot, IsBook, IsOwned, IsKeptTurn, turn_number, oldest_in, book_of}
@@ -85,7 +86,7 @@ module _ (h : Header) (commit : ℕ) (order : HeaderInOrder commit h) where
       let at : (e : ℕ) × (e < K) × (ord_in h e ≡ turn) = onto K (oldest_in h K) (ord_in h) (λ e lt. let n = ring.near e lt in (omega (arith, n.near, few), omega (arith, n.up_to, few))) (λ e lt lower below. ring.apart e lt lower below) turn low (omega (arith, high, few)) in
       (at.0, finds h.extents turn at.0 (omega (arith, at.1, ring.few, order.extents_counted)) at.2 (λ f lt is. sym (apart_in h K order.extents_counted ring at.0 f (omega (arith, at.2, low, few)) (at.2 ∙ sym is))))
 
-  pub found_is_book : ((i : ℕ) → i < 16 → (slot_in h i).state ≢ 1) → IsBook h (book_of h K)
+  pub found_is_book : ((i : ℕ) → i < SLOTS → (slot_in h i).state ≢ 1) → IsBook h (book_of h K)
   found_is_book idle = record {
     writes = refl;
     lost = refl;
@@ -100,5 +101,5 @@ module _ (h : Header) (commit : ℕ) (order : HeaderInOrder commit h) where
       many : length (book_of h K).turns ≡ K
       many = length-map-range_with_len (λ (j : ℕ). turn_number h (extent_with h.extents (oldest_in h K + j))) 0 K
 
-      slot_there : (i : ℕ) → i < 16 → get_or (book_of h K).slots i free_slot ≡ record { newest = (slot_in h i).newest; owner = None }
+      slot_there : (i : ℕ) → i < SLOTS → get_or (book_of h K).slots i free_slot ≡ record { newest = (slot_in h i).newest; owner = None }
       slot_there i few = get_or-map idle_slot h.slots i no_slot free_slot (omega (arith, few, order.slots_counted))

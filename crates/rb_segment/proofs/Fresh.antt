@@ -1,6 +1,8 @@
 -- The header of a new file is in order and tells the fresh book, so the definitions can be met.
-use Rattle.std.proofs.Common.{◌≡◌, ◌≢◌, ◌<◌, ◌≤◌, ◌+◌, ℕ, zero, suc, get_or, replicate, refl, sym, ◌∙◌, ap, subst, arith}
+use Rattle.std.proofs.Common.{◌*◌, ◌≡◌, ◌≢◌, ◌<◌, ◌≤◌, ◌+◌, ℕ, zero, suc, get_or, replicate, refl, sym, ◌∙◌, ap, subst, arith}
 use Rattle.std.proofs.lemmas.List.{length-replicate}
+use Rattle.rb_base.specs.declared.sizes.TheConstants.{SLOTS}
+use Rattle.rb_ring.specs.declared.extents.TheConstants.{EXTENTS, EXTENT_RECORDS}
 use Rattle.rb_model.specs.Book.{BookSlot, free_slot, fresh_book}
 use Rattle.rb_ring.specs.Ring.{IsRing}
 use Rattle.rb_ring.specs.declared.extents.Extent.{Extent}
@@ -18,7 +20,7 @@ all_same x (suc n) zero = refl
 all_same x (suc n) (suc i) = all_same x n i
 
 pub fresh_slot : (i : ℕ) → slot_in fresh_header i ≡ no_slot
-fresh_slot i = all_same no_slot 16 i
+fresh_slot i = all_same no_slot SLOTS i
 
 ord_out : (e : ℕ) → 2 ≤ e → ord_in fresh_header e ≡ 0
 ord_out zero le = absurd (omega arith)
@@ -62,7 +64,7 @@ fresh_order = record {
     lost = omega arith;
     newest = λ e few. let a = newest_zero e in omega (arith, a);
   };
-  undo_counted = length-replicate 320 no_undo;
+  undo_counted = length-replicate (EXTENTS * EXTENT_RECORDS) no_undo;
   numbers = record {
     writes = omega arith;
     records = λ k r is. let m = made_of fresh_segment k r is in absurd (omega (arith, m.0, m.1));
@@ -83,8 +85,8 @@ fresh_is_book = record {
   writes = refl;
   lost = refl;
   slots = refl;
-  newest = λ i few. ap (λ (z : BookSlot). z.newest) (all_same free_slot 16 i) ∙ ap (λ (z : TableSlot). z.newest) (sym (fresh_slot i));
-  owners = λ i few. subst (λ (z : BookSlot). IsOwned fresh_header (slot_in fresh_header i) z.owner) (sym (all_same free_slot 16 i)) (not_active i);
+  newest = λ i few. ap (λ (z : BookSlot). z.newest) (all_same free_slot SLOTS i) ∙ ap (λ (z : TableSlot). z.newest) (sym (fresh_slot i));
+  owners = λ i few. subst (λ (z : BookSlot). IsOwned fresh_header (slot_in fresh_header i) z.owner) (sym (all_same free_slot SLOTS i)) (not_active i);
   ring = fresh_ring;
   kept = omega arith;
   turns = λ k lt. kept_turns k lt;

@@ -5,6 +5,8 @@ use Rattle.std.proofs.lemmas.Bool.{cases_eq, cases_lt, cases_Bool, and_parts, le
 use Rattle.std.proofs.lemmas.Bool.Decides.{nat_tests}
 use Rattle.std.proofs.lemmas.List.Folds.{list_any_at}
 use Rattle.std.proofs.Math.Nat.{div-add-mod}
+use Rattle.rb_base.specs.declared.sizes.TheConstants.{SLOTS}
+use Rattle.rb_ring.specs.declared.extents.TheConstants.{EXTENTS, EXTENT_RECORDS}
 use Rattle.rb_model.specs.Book.{Owner, Book, free_slot, first_turn, is_pinned, is_pinned_by, needs_turn, is_full}
 use Rattle.rb_ring.specs.Turns.{IsOldest, IsPinned}
 use Rattle.rb_ring.specs.declared.extents.Extent.{Extent}
@@ -78,11 +80,11 @@ module _ (commit : ℕ) (h : Header) (b : Book) (tells : TellsBook commit h b) (
   abbrev Oldest : ℕ
   Oldest = oldest_in h Kept
 
-  needs : needs_turn b ≡ (h.records == 40)
+  needs : needs_turn b ≡ (h.records == EXTENT_RECORDS)
   needs = needs_is h b tells.book commit tells.order tells.count tells.begun
 
   -- a slot pins the oldest turn exactly where its owner does
-  slot_pins : (j : ℕ) → j < 16 → is_first_in Oldest (slot_in h j) ≡ is_pinned_by Oldest (get_or b.slots j free_slot).owner
+  slot_pins : (j : ℕ) → j < SLOTS → is_first_in Oldest (slot_in h j) ≡ is_pinned_by Oldest (get_or b.slots j free_slot).owner
   slot_pins j few = by (get_or b.slots j free_slot).owner (tells.book.owners j few)
     where
       by : (o : Option Owner) → IsOwned h (slot_in h j) o → is_first_in Oldest (slot_in h j) ≡ is_pinned_by Oldest o
@@ -95,7 +97,7 @@ module _ (commit : ℕ) (h : Header) (b : Book) (tells : TellsBook commit h b) (
             | inl fresh ↦
                 let none : ((slot_in h j).touched == 0) ≡ true = grind (arith, nat_tests) in
                 let start : o.start ≡ h.writes = sym owned.start ∙ turns.new j few active fresh in
-                let a = div-add-mod o.start 40 in
+                let a = div-add-mod o.start EXTENT_RECORDS in
                 let two = tells.book.ring.few.0 in
                 let few_records = tells.order.records in
                 let count = tells.count in
@@ -104,7 +106,7 @@ module _ (commit : ℕ) (h : Header) (b : Book) (tells : TellsBook commit h b) (
                 rw (test, none, other) refl
             | inr some ↦
                 let begun : ((slot_in h j).touched == 0) ≡ false = grind (arith, nat_tests) in
-                let first : (slot_in h j).first ≡ first_turn o = (turns.begun j few active some).0 ∙ ap (λ (z : ℕ). 2 + z / 40) (sym back) in
+                let first : (slot_in h j).first ≡ first_turn o = (turns.begun j few active some).0 ∙ ap (λ (z : ℕ). 2 + z / EXTENT_RECORDS) (sym back) in
                 rw (test, begun) (ap (λ (z : ℕ). z == Oldest) first)
           ]
 
@@ -130,24 +132,24 @@ module _ (commit : ℕ) (h : Header) (b : Book) (tells : TellsBook commit h b) (
   none_then_full none =
       let low = none.full in
       let high = tells.order.records in
-      let full : h.records ≡ 40 = omega (arith, low, high) in
-      let head : needs_turn b ≡ true = needs ∙ (let test : (h.records == 40) ≡ true = grind (arith, nat_tests) in test) in
+      let full : h.records ≡ EXTENT_RECORDS = omega (arith, low, high) in
+      let head : needs_turn b ≡ true = needs ∙ (let test : (h.records == EXTENT_RECORDS) ≡ true = grind (arith, nat_tests) in test) in
       let pin : IsPinned (Pins h) Oldest = subst (λ (z : ℕ). IsPinned (Pins h) z) oldest_at.3 (none.pinned oldest_at.0 is_oldest) in
       let counted = tells.order.slots_counted in
       let pinned : is_pinned b ≡ true = sym slots_pin ∙ list_any_at (is_first_in Oldest) h.slots pin.0 no_slot (omega (arith, pin.1, counted)) (pins_is (slot_in h pin.0) Oldest pin.2.state pin.2.begun pin.2.first) in
-      let eight : nat_le 8 Kept ≡ true = elim (cases_lt Kept 8) [
+      let eight : nat_le EXTENTS Kept ≡ true = elim (cases_lt Kept EXTENTS) [
         | inl few ↦ let out : ord_in h Kept ≡ 0 = tells.book.ring.others Kept (omega arith) few in let some = none.kept Kept few in absurd (omega (arith, out, some))
-        | inr many ↦ le-leb 8 Kept many
+        | inr many ↦ le-leb EXTENTS Kept many
       ] in
       rw (head, pinned, eight) refl
 
   pub full_then_none : is_full b ≡ true → NoneMayTurn h
   full_then_none is =
-      let a = and_parts (needs_turn b) (is_pinned b && nat_le 8 Kept) is in
-      let c = and_parts (is_pinned b) (nat_le 8 Kept) a.1 in
-      let eight : 8 ≤ Kept = leb-true 8 Kept c.1 in
-      let test : (h.records == 40) ≡ true = sym needs ∙ a.0 in
-      let full : h.records ≡ 40 = grind (arith, nat_tests) in
+      let a = and_parts (needs_turn b) (is_pinned b && nat_le EXTENTS Kept) is in
+      let c = and_parts (is_pinned b) (nat_le EXTENTS Kept) a.1 in
+      let eight : EXTENTS ≤ Kept = leb-true EXTENTS Kept c.1 in
+      let test : (h.records == EXTENT_RECORDS) ≡ true = sym needs ∙ a.0 in
+      let full : h.records ≡ EXTENT_RECORDS = grind (arith, nat_tests) in
       let some : (i : ℕ) × (i < length h.slots) × (is_first_in Oldest (slot_in h i) ≡ true) = any_at (is_first_in Oldest) no_slot h.slots (slots_pin ∙ c.0) in
       let p = is_pins (slot_in h some.0) Oldest some.2 in
       let counted = tells.order.slots_counted in
@@ -170,14 +172,14 @@ module _ (commit : ℕ) (h : Header) (b : Book) (tells : TellsBook commit h b) (
   next_full_is =
       let least_is : least_turn h ≡ Oldest = ap (oldest_in h) ring_is in
       let pinned : list_any (is_first_in (least_turn h)) h.slots ≡ is_pinned b = ap (λ (z : ℕ). list_any (is_first_in z) h.slots) least_is ∙ slots_pin in
-      ap (λ (z : Bool). z && (list_any (is_first_in (least_turn h)) h.slots && (ring_count h == 8))) (sym needs)
-      ∙ (ap (λ (z : Bool). needs_turn b && (z && (ring_count h == 8))) pinned ∙ ap (λ (z : Bool). needs_turn b && (is_pinned b && z)) (ap (λ (z : ℕ). z == 8) ring_is ∙ eight))
+      ap (λ (z : Bool). z && (list_any (is_first_in (least_turn h)) h.slots && (ring_count h == EXTENTS))) (sym needs)
+      ∙ (ap (λ (z : Bool). needs_turn b && (z && (ring_count h == EXTENTS))) pinned ∙ ap (λ (z : Bool). needs_turn b && (is_pinned b && z)) (ap (λ (z : ℕ). z == EXTENTS) ring_is ∙ eight))
     where
-      below : (n : ℕ) → n < 8 → nat_le 8 n ≡ false
+      below : (n : ℕ) → n < EXTENTS → nat_le EXTENTS n ≡ false
       below n lt = grind (arith, nat_tests)
 
-      eight : (Kept == 8) ≡ nat_le 8 Kept
-      eight = let few = tells.book.ring.few.1 in elim (cases_eq Kept 8) [
-        | inl is ↦ let x : (Kept == 8) ≡ true = grind (arith, nat_tests) in x ∙ sym (le-leb 8 Kept (omega (arith, is)))
-        | inr ne ↦ let x : (Kept == 8) ≡ false = grind (arith, nat_tests) in x ∙ sym (below Kept (omega (arith, ne, few)))
+      eight : (Kept == EXTENTS) ≡ nat_le EXTENTS Kept
+      eight = let few = tells.book.ring.few.1 in elim (cases_eq Kept EXTENTS) [
+        | inl is ↦ let x : (Kept == EXTENTS) ≡ true = grind (arith, nat_tests) in x ∙ sym (le-leb EXTENTS Kept (omega (arith, is)))
+        | inr ne ↦ let x : (Kept == EXTENTS) ≡ false = grind (arith, nat_tests) in x ∙ sym (below Kept (omega (arith, ne, few)))
       ]

@@ -2,6 +2,8 @@
 use Rattle.std.proofs.Common.{◌≡◌, ℕ, ◌+◌, ◌-◌, ◌<◌, ◌≤◌, List, take, drop, refl, arith, ap, sym, ◌∙◌, slice_index}
 use Rattle.std.proofs.lemmas.List.{drop-drop}
 use Rattle.std.specs.List.{AllByRecursion}
+use Rattle.rb_base.specs.declared.sizes.TheConstants.{SLOTS}
+use Rattle.rb_ring.specs.declared.extents.TheConstants.{EXTENTS}
 use Rattle.byteorder.specs.Endian.{big_number}
 use Rattle.rb_base.proofs.Fronts.{byte_of_part}
 use Rattle.rb_base.proofs.Listed.{listed_same}
@@ -31,9 +33,9 @@ module _ (one other : List ℕ) (same : behind_head one ≡ behind_head other) w
   pub header_same : header_of one ≡ header_of other
   unfolding header_of
   header_same =
-      let slots = listed_same (slot_at one) (slot_at other) 16 no_slot (slots_same one other (λ at count behind lt. number_same at count behind) (λ at behind lt. byte_same at behind)) in
+      let slots = listed_same (slot_at one) (slot_at other) SLOTS no_slot (slots_same one other (λ at count behind lt. number_same at count behind) (λ at behind lt. byte_same at behind)) in
       let ring = ring_same one other (λ at count behind. number_same at count (omega arith)) in
-      let extents = listed_same (extent_at one) (extent_at other) 8 no_extent (λ e lt. ring.0 e) in
+      let extents = listed_same (extent_at one) (extent_at other) EXTENTS no_extent (λ e lt. ring.0 e) in
       rw (slots, extents, ring.1, ring.2, ring.3, ring.4) refl
 
 -- so what its block's own patches, written over a copy of it, make of the copy, they make of the file's header

@@ -1,9 +1,11 @@
 -- Each move of a write only ages what its segment says.
-use Rattle.std.proofs.Common.{◌≡◌, ◌≢◌, inl, inr, ◌<◌, ◌≤◌, ◌==◌, ◌+◌, ◌/◌, ◌%◌, ◌^◌, ℕ, true, false, nat_lt, if◌then◌else◌, length, Option, Some, None, refl, sym, ◌∙◌, ap, subst, arith}
+use Rattle.std.proofs.Common.{◌*◌, ◌≡◌, ◌≢◌, inl, inr, ◌<◌, ◌≤◌, ◌==◌, ◌+◌, ◌/◌, ◌%◌, ◌^◌, ℕ, true, false, nat_lt, if◌then◌else◌, length, Option, Some, None, refl, sym, ◌∙◌, ap, subst, arith}
 use Rattle.std.proofs.lemmas.Bool.{cases_eq, cases_lt}
 use Rattle.std.proofs.lemmas.Bool.Decides.{nat_tests}
 use Rattle.std.proofs.lemmas.List.{get_or-set_same, get_or-set_other, set_past}
 use Rattle.std.proofs.lemmas.Nat.{pow_pos, div_below}
+use Rattle.rb_base.specs.declared.sizes.TheConstants.{SLOTS}
+use Rattle.rb_ring.specs.declared.extents.TheConstants.{EXTENTS, EXTENT_RECORDS}
 use Rattle.rb_base.specs.declared.ids.Uba.{Uba}
 use Rattle.rb_model.specs.Book.{turn_of}
 use Rattle.rb_ring.specs.declared.extents.Extent.{Extent}
@@ -167,7 +169,7 @@ touched_some bits None touches = absurd touches
 touched_some bits (Some e) touches = λ is. has_none e (subst (λ (z : ℕ). has_bit z e ≡ true) is touches)
 
 -- an extent takes the next turn
-module _ (goes : ℕ → Type 0) (s : Segment) (e : ℕ) (ring : Ring s.header) (slots : length s.header.slots ≡ 16) (may : MayTurn s.header e) (keeps : (i : ℕ) → goes i → ((slot_in s.header i).state ≡ 1) × KeepsRecords s i) where
+module _ (goes : ℕ → Type 0) (s : Segment) (e : ℕ) (ring : Ring s.header) (slots : length s.header.slots ≡ SLOTS) (may : MayTurn s.header e) (keeps : (i : ℕ) → goes i → ((slot_in s.header i).state ≡ 1) × KeepsRecords s i) where
   abbrev Turned : Segment
   Turned = with_header (turned e s.header) s
 
@@ -231,7 +233,7 @@ module _ (goes : ℕ → Type 0) (s : Segment) (e : ℕ) (ring : Ring s.header) 
   }
 
 -- a record is added to the head
-module _ (goes : ℕ → Type 0) (i : ℕ) (address : Uba) (touched : ℕ) (r : UndoRecord) (s : Segment) (ring : Ring s.header) (few : s.header.records < 40) (room : length s.undo ≡ 320) where
+module _ (goes : ℕ → Type 0) (i : ℕ) (address : Uba) (touched : ℕ) (r : UndoRecord) (s : Segment) (ring : Ring s.header) (few : s.header.records < EXTENT_RECORDS) (room : length s.undo ≡ (EXTENTS * EXTENT_RECORDS)) where
   abbrev Added : Segment
   Added = with_record i address touched r s
 

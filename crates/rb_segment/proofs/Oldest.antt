@@ -3,7 +3,7 @@ use Rattle.std.proofs.Common.{◌≡◌, ◌≢◌, ◌⊎◌, inl, inr, ℕ, �
 use Rattle.std.proofs.lemmas.Bool.{cases_lt}
 use Rattle.rb_base.proofs.Fronts.{IsBytes, IsBytes-drop}
 use Rattle.rb_base.specs.Addresses.{slot_place}
-use Rattle.rb_base.specs.declared.sizes.TheConstants.{ACTIVE}
+use Rattle.rb_base.specs.declared.sizes.TheConstants.{ACTIVE, SLOTS}
 use Rattle.rb_ring.specs.Ring.{record_count}
 use Rattle.rb_segment.proofs.Parts.{slot_read, ring_read}
 use Rattle.rb_segment.specs.Calls.{IsSince}
@@ -62,8 +62,8 @@ start_fits header i bytes =
     let part = IsBytes-drop (slot_place i + 56) header bytes in
     omega (arith, part 0, part 1, part 2, part 3, part 4, part 5, part 6, part 7)
 
-pub since_oldest : (header : List ℕ) (oldest since : ℕ) → IsOldest (slot_at header) 16 oldest → since ≡ record_count header - oldest
-    → (i : ℕ) → i < 16 → (slot_in (header_of header) i).state ≡ ACTIVE → IsSince (header_of header) since
+pub since_oldest : (header : List ℕ) (oldest since : ℕ) → IsOldest (slot_at header) SLOTS oldest → since ≡ record_count header - oldest
+    → (i : ℕ) → i < SLOTS → (slot_in (header_of header) i).state ≡ ACTIVE → IsSince (header_of header) since
 since_oldest header oldest since all count i few active =
     elim all.found [
       | inl none ↦ absurd (none.1 i few (ap (λ (s : TableSlot). s.state) (sym (slot_read header i few)) ∙ active))

@@ -1,6 +1,8 @@
 -- What a write makes of its segment: it ages, the record is found under the next number, and the ring stays a ring.
-use Rattle.std.proofs.Common.{◌≡◌, ◌≢◌, inl, inr, ◌<◌, ◌≤◌, ◌+◌, ℕ, List, length, Option, Some, refl, sym, ◌∙◌, ap, subst, arith}
+use Rattle.std.proofs.Common.{◌*◌, ◌≡◌, ◌≢◌, inl, inr, ◌<◌, ◌≤◌, ◌+◌, ℕ, List, length, Option, Some, refl, sym, ◌∙◌, ap, subst, arith}
 use Rattle.std.proofs.lemmas.List.{get_or-set_other, length-set}
+use Rattle.rb_base.specs.declared.sizes.TheConstants.{SLOTS}
+use Rattle.rb_ring.specs.declared.extents.TheConstants.{EXTENTS, EXTENT_RECORDS}
 use Rattle.rb_base.specs.declared.ids.Uba.{Uba}
 use Rattle.rb_model.specs.Book.{turn_of}
 use Rattle.rb_ring.specs.declared.extents.Extent.{Extent}
@@ -35,8 +37,8 @@ claimed_other h i j ne = get_or-set_other h.slots i j (claimed_slot h (slot_in h
 pub record ReadyIs (goes : ℕ → Type 0) (s ready : Segment) : Type 0 where
   pub ages : SegmentAges goes s ready
   pub ring : Ring ready.header
-  pub slots : length ready.header.slots ≡ 16
-  pub room : length ready.undo ≡ 320
+  pub slots : length ready.header.slots ≡ SLOTS
+  pub room : length ready.undo ≡ (EXTENTS * EXTENT_RECORDS)
   pub writes : ready.header.writes ≡ s.header.writes
   pub keeps : (j : ℕ) → goes j → ((slot_in ready.header j).state ≡ 1) × KeepsRecords ready j
 
@@ -44,13 +46,13 @@ pub record ReadyIs (goes : ℕ → Type 0) (s ready : Segment) : Type 0 where
 pub record RoomIs (goes : ℕ → Type 0) (s now : Segment) : Type 0 where
   pub ages : SegmentAges goes s now
   pub ring : Ring now.header
-  pub few : now.header.records < 40
-  pub slots : length now.header.slots ≡ 16
-  pub room : length now.undo ≡ 320
+  pub few : now.header.records < EXTENT_RECORDS
+  pub slots : length now.header.slots ≡ SLOTS
+  pub room : length now.undo ≡ (EXTENTS * EXTENT_RECORDS)
   pub writes : now.header.writes ≡ s.header.writes
 
 -- a segment before the write: its ring and its lists, and what goes on in it
-module _ (goes : ℕ → Type 0) (s : Segment) (i : ℕ) (address : Uba) (r : UndoRecord) (s2 : Segment) (ring : Ring s.header) (slots : length s.header.slots ≡ 16) (room : length s.undo ≡ 320) (within : i < 16) (in_order : (slot_in s.header i).before ≤ (slot_in s.header i).newest) (keeps : (j : ℕ) → goes j → ((slot_in s.header j).state ≡ 1) × KeepsRecords s j) (records : Records s i address r s2) where
+module _ (goes : ℕ → Type 0) (s : Segment) (i : ℕ) (address : Uba) (r : UndoRecord) (s2 : Segment) (ring : Ring s.header) (slots : length s.header.slots ≡ SLOTS) (room : length s.undo ≡ (EXTENTS * EXTENT_RECORDS)) (within : i < SLOTS) (in_order : (slot_in s.header i).before ≤ (slot_in s.header i).newest) (keeps : (j : ℕ) → goes j → ((slot_in s.header j).state ≡ 1) × KeepsRecords s j) (records : Records s i address r s2) where
   ready_same : ReadyIs goes s s
   ready_same = record { ages = ages_same goes s; ring = ring; slots = slots; room = room; writes = refl; keeps = keeps }
 

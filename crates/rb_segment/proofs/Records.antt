@@ -4,6 +4,7 @@ use Rattle.std.proofs.lemmas.Bool.{cases_eq, cases_lt}
 use Rattle.std.proofs.lemmas.Bool.Decides.{nat_tests}
 use Rattle.std.proofs.lemmas.List.{get_or-set_same, get_or-set_other, length-set}
 use Rattle.std.proofs.Math.Nat.{div-add-mod, mod-lt}
+use Rattle.rb_ring.specs.declared.extents.TheConstants.{EXTENTS, EXTENT_RECORDS}
 use Rattle.rb_base.specs.declared.ids.Uba.{Uba}
 use Rattle.rb_model.specs.Book.{turn_of}
 use Rattle.rb_ring.specs.declared.extents.Extent.{Extent}
@@ -70,40 +71,40 @@ pub in_made : (s : Segment) (i : ℕ) → 1 ≤ i → i ≤ s.header.writes → 
 in_made s i some le = let a : nat_le i s.header.writes ≡ true = grind (arith, nat_tests) in let b : nat_le 1 i ≡ true = grind (arith, nat_tests) in rw (b, a) refl
 
 -- the number, the turn and the position of the next record of the head
-positive : 0 < 40
+positive : 0 < EXTENT_RECORDS
 positive = omega arith
 
-pub next_turn : (writes ord records : ℕ) → writes + 80 ≡ 40 * ord + records → records < 40 → turn_of (writes + 1) ≡ ord
+pub next_turn : (writes ord records : ℕ) → writes + 2 * EXTENT_RECORDS ≡ EXTENT_RECORDS * ord + records → records < EXTENT_RECORDS → turn_of (writes + 1) ≡ ord
 next_turn writes ord records count few =
-    let a = div-add-mod (writes + 1 - 1) 40 in
+    let a = div-add-mod (writes + 1 - 1) EXTENT_RECORDS in
     let b = mod-lt (writes + 1 - 1) (positive) in
     omega (arith, a, b, count, few)
 
-pub next_position : (writes ord records : ℕ) → writes + 80 ≡ 40 * ord + records → records < 40 → position_of (writes + 1) ≡ records
+pub next_position : (writes ord records : ℕ) → writes + 2 * EXTENT_RECORDS ≡ EXTENT_RECORDS * ord + records → records < EXTENT_RECORDS → position_of (writes + 1) ≡ records
 next_position writes ord records count few =
-    let a = div-add-mod (writes + 1 - 1) 40 in
+    let a = div-add-mod (writes + 1 - 1) EXTENT_RECORDS in
     let b = mod-lt (writes + 1 - 1) (positive) in
     omega (arith, a, b, count, few)
 
 -- a record's turn and position tell its number
 pub one_number : (p q : ℕ) → 1 ≤ p → 1 ≤ q → turn_of p ≡ turn_of q → position_of p ≡ position_of q → p ≡ q
 one_number p q lp lq turns positions =
-    let a = div-add-mod (p - 1) 40 in
-    let b = div-add-mod (q - 1) 40 in
+    let a = div-add-mod (p - 1) EXTENT_RECORDS in
+    let b = div-add-mod (q - 1) EXTENT_RECORDS in
     omega (arith, a, b, turns, positions)
 
-pub position_few : (i : ℕ) → position_of i < 40
+pub position_few : (i : ℕ) → position_of i < EXTENT_RECORDS
 position_few i = mod-lt (i - 1) (positive)
 
 -- no turn is above the head's, while the head isn't empty
-pub turn_up_to : (writes ord records i : ℕ) → writes + 80 ≡ 40 * ord + records → records ≤ 40 → i ≤ writes → 1 ≤ i → turn_of i ≤ ord
+pub turn_up_to : (writes ord records i : ℕ) → writes + 2 * EXTENT_RECORDS ≡ EXTENT_RECORDS * ord + records → records ≤ EXTENT_RECORDS → i ≤ writes → 1 ≤ i → turn_of i ≤ ord
 turn_up_to writes ord records i count few le some =
-    let a = div-add-mod (i - 1) 40 in
+    let a = div-add-mod (i - 1) EXTENT_RECORDS in
     let b = mod-lt (i - 1) (positive) in
     omega (arith, a, b, count, few)
 
 -- the next record is found in the head
-module _ (i : ℕ) (address : Uba) (touched : ℕ) (r : UndoRecord) (s : Segment) (ring : Ring s.header) (few : s.header.records < 40) (room : length s.undo ≡ 320) where
+module _ (i : ℕ) (address : Uba) (touched : ℕ) (r : UndoRecord) (s : Segment) (ring : Ring s.header) (few : s.header.records < EXTENT_RECORDS) (room : length s.undo ≡ (EXTENTS * EXTENT_RECORDS)) where
   head_found : extent_with s.header.extents (head_turn s.header) ≡ Some s.header.head
   head_found = finds s.header.extents (head_turn s.header) s.header.head (omega (arith, ring.head_in, ring.extents)) refl (λ f lt is. sym (ring.apart s.header.head f (positive_turn) (sym is)))
     where
@@ -117,11 +118,11 @@ module _ (i : ℕ) (address : Uba) (touched : ℕ) (r : UndoRecord) (s : Segment
       let at : extent_with s.header.extents (turn_of (s.header.writes + 1)) ≡ Some s.header.head = ap (extent_with s.header.extents) turn ∙ head_found in
       in_made (with_record i address touched r s) (s.header.writes + 1) (omega arith) (omega arith)
       ∙ (ap (undo_in (set s.undo (next_place s.header) r) (position_of (s.header.writes + 1))) at
-      ∙ (ap (λ (z : ℕ). Some (get_or (set s.undo (next_place s.header) r) (40 * s.header.head + z) no_undo)) position
+      ∙ (ap (λ (z : ℕ). Some (get_or (set s.undo (next_place s.header) r) (EXTENT_RECORDS * s.header.head + z) no_undo)) position
       ∙ ap Some (get_or-set_same s.undo (next_place s.header) r no_undo (omega (arith, ring.head_in)))))
 
   -- a record of an earlier number is what it was
-  other_place : (k e : ℕ) → 1 ≤ k → k ≤ s.header.writes → extent_with s.header.extents (turn_of k) ≡ Some e → 40 * e + position_of k ≢ next_place s.header
+  other_place : (k e : ℕ) → 1 ≤ k → k ≤ s.header.writes → extent_with s.header.extents (turn_of k) ≡ Some e → EXTENT_RECORDS * e + position_of k ≢ next_place s.header
   other_place k e some le at same =
       let f : (e < length s.header.extents) × (ord_in s.header e ≡ turn_of k) = found s.header.extents (turn_of k) e at in
       let p = position_few k in
@@ -133,7 +134,7 @@ module _ (i : ℕ) (address : Uba) (touched : ℕ) (r : UndoRecord) (s : Segment
 
   undo_stays : (k : ℕ) (o : Option ℕ) → 1 ≤ k → k ≤ s.header.writes → extent_with s.header.extents (turn_of k) ≡ o → undo_in (set s.undo (next_place s.header) r) (position_of k) o ≡ undo_in s.undo (position_of k) o
   undo_stays k None some le at = refl
-  undo_stays k (Some e) some le at = ap Some (get_or-set_other s.undo (next_place s.header) (40 * e + position_of k) r no_undo (other_place k e some le at))
+  undo_stays k (Some e) some le at = ap Some (get_or-set_other s.undo (next_place s.header) (EXTENT_RECORDS * e + position_of k) r no_undo (other_place k e some le at))
 
   pub added_others : (k : ℕ) → k ≤ s.header.writes → record_in (with_record i address touched r s) k ≡ record_in s k
   added_others k le = elim (cases_lt 0 k) [
@@ -228,5 +229,5 @@ module _ (e : ℕ) (s : Segment) (ring : Ring s.header) (may : MayTurn s.header 
     | inr gone ↦ absurd (ne gone.0)
   ]
 
-pub added_ring : (i : ℕ) (address : Uba) (touched : ℕ) (h : Header) → Ring h → h.records < 40 → Ring (added i address touched h)
+pub added_ring : (i : ℕ) (address : Uba) (touched : ℕ) (h : Header) → Ring h → h.records < EXTENT_RECORDS → Ring (added i address touched h)
 added_ring i address touched h ring few = record { extents = ring.extents; head_in = ring.head_in; apart = ring.apart; highest = ring.highest; second = ring.second; few = omega arith; count = omega (arith, ring.count) }

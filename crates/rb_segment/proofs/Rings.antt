@@ -2,18 +2,19 @@
 use Rattle.std.proofs.Common.{◌≡◌, ◌≢◌, inl, inr, ◌<◌, ◌≤◌, ◌+◌, ◌*◌, ℕ, length, sym, ◌∙◌, ap, subst, arith}
 use Rattle.std.proofs.lemmas.Bool.{cases_eq, cases_lt}
 use Rattle.std.proofs.lemmas.List.{get_or-set_same, get_or-set_other, get_or_past}
+use Rattle.rb_ring.specs.declared.extents.TheConstants.{EXTENTS, EXTENT_RECORDS}
 use Rattle.rb_ring.specs.Ring.{IsRing}
 use Rattle.rb_ring.specs.declared.extents.Extent.{Extent}
 use Rattle.rb_segment.specs.Header.{Header, no_extent, ord_in, head_turn}
 use Rattle.rb_segment.proofs.MayTurns.{may_oldest}
 use Rattle.rb_segment.specs.Moves.{turned, Ring, MayTurn}
 
-module _ (h : Header) (k : ℕ) (counted : length h.extents ≡ 8) (ring : IsRing (ord_in h) h.head k) where
+module _ (h : Header) (k : ℕ) (counted : length h.extents ≡ EXTENTS) (ring : IsRing (ord_in h) h.head k) where
   -- an extent with a turn is in the ring
   pub within_ring : (e : ℕ) → 1 ≤ ord_in h e → e < k
   within_ring e some = elim (cases_lt e k) [
     | inl lt ↦ lt
-    | inr le ↦ elim (cases_lt e 8) [
+    | inr le ↦ elim (cases_lt e EXTENTS) [
       | inl few ↦ let none : ord_in h e ≡ 0 = ring.others e (omega arith) few in absurd (omega (arith, none))
       | inr past ↦ let none : ord_in h e ≡ 0 = ap (λ (z : Extent). z.ord) (get_or_past h.extents e no_extent (omega (arith, past, counted))) in absurd (omega (arith, none))
     ]
@@ -34,7 +35,7 @@ module _ (h : Header) (k : ℕ) (counted : length h.extents ≡ 8) (ring : IsRin
     | inr none ↦ omega (arith, none)
   ]
 
-  pub ring_of : (records : h.records ≤ 40) → h.writes + 80 ≡ 40 * head_turn h + h.records → Ring h
+  pub ring_of : (records : h.records ≤ EXTENT_RECORDS) → h.writes + 2 * EXTENT_RECORDS ≡ EXTENT_RECORDS * head_turn h + h.records → Ring h
   ring_of records count = record {
     extents = counted;
     head_in = omega (arith, ring.head_within, ring.few.1);

@@ -3,6 +3,8 @@ use Rattle.std.proofs.Common.{◌≡◌, ◌≢◌, ◌⊎◌, inl, inr, ◌<◌
 use Rattle.std.proofs.lemmas.Bool.{cases_eq, cases_lt}
 use Rattle.std.proofs.lemmas.Bool.Decides.{nat_tests}
 use Rattle.std.proofs.lemmas.List.{get_or-set_same, get_or-set_other, length-set}
+use Rattle.rb_base.specs.declared.sizes.TheConstants.{SLOTS}
+use Rattle.rb_ring.specs.declared.extents.TheConstants.{EXTENT_RECORDS}
 use Rattle.rb_base.specs.declared.ids.Uba.{Uba}
 use Rattle.rb_base.specs.declared.shape.Shape.{Shape}
 use Rattle.rb_ring.specs.declared.extents.Extent.{Extent}
@@ -20,13 +22,13 @@ use Rattle.rb_segment.proofs.Rings.{ring_of, turned_is_ring}
 use Rattle.rb_segment.proofs.Slots.{keeps_turned, fresh_turned, keeps_added_other, keeps_added_own, keeps_added_first}
 
 -- what holds of each slot, and of the one that is set
-pub slots_set : (P : TableSlot → Type 0) (slots : List TableSlot) (i : ℕ) (x : TableSlot) → i < length slots → P x → ((j : ℕ) → j < 16 → j ≢ i → P (get_or slots j no_slot)) → (j : ℕ) → j < 16 → P (get_or (set slots i x) j no_slot)
+pub slots_set : (P : TableSlot → Type 0) (slots : List TableSlot) (i : ℕ) (x : TableSlot) → i < length slots → P x → ((j : ℕ) → j < SLOTS → j ≢ i → P (get_or slots j no_slot)) → (j : ℕ) → j < SLOTS → P (get_or (set slots i x) j no_slot)
 slots_set P slots i x within here all j few = elim (cases_eq j i) [
   | inl at ↦ subst (λ (z : ℕ). P (get_or (set slots i x) z no_slot)) (sym at) (subst P (sym (get_or-set_same slots i x no_slot within)) here)
   | inr ne ↦ subst P (sym (get_or-set_other slots i j x no_slot ne)) (all j few ne)
 ]
 
-pub claimed_order : (commit i : ℕ) (h : Header) → i < 16 → HeaderInOrder commit h → HeaderInOrder commit (claimed i h)
+pub claimed_order : (commit i : ℕ) (h : Header) → i < SLOTS → HeaderInOrder commit h → HeaderInOrder commit (claimed i h)
 claimed_order commit i h few order = let o = order.slots i few in record {
   slots_counted = simp length-set order.slots_counted;
   extents_counted = order.extents_counted;
@@ -54,7 +56,7 @@ turned_order commit e h ring may order = record {
   ];
 }
 
-added_order : (commit i : ℕ) (address : Uba) (touched : ℕ) (h : Header) → i < 16 → h.records < 40 → HeaderInOrder commit h → HeaderInOrder commit (added i address touched h)
+added_order : (commit i : ℕ) (address : Uba) (touched : ℕ) (h : Header) → i < SLOTS → h.records < EXTENT_RECORDS → HeaderInOrder commit h → HeaderInOrder commit (added i address touched h)
 added_order commit i address touched h few room order = let o = order.slots i few in record {
   slots_counted = simp length-set order.slots_counted;
   extents_counted = order.extents_counted;
@@ -65,7 +67,7 @@ added_order commit i address touched h few room order = let o = order.slots i fe
   newest = order.newest;
 }
 
-module _ (s : Segment) (i : ℕ) (address : Uba) (u : UndoRecord) (s2 : Segment) (records : Records s i address u s2) (commit logged : ℕ) (order : SegmentInOrder commit logged s) (within : i < 16) (keeps : (j : ℕ) → (slot_in s.header j).state ≡ 1 → KeepsRecords s j) (running : (j : ℕ) → (slot_in s.header j).state ≡ 1 → RunningSlot s.header (slot_in s.header j)) (of : u.slot ≡ i) (wrap : u.wrap ≡ (slot_in s2.header i).wrap) where
+module _ (s : Segment) (i : ℕ) (address : Uba) (u : UndoRecord) (s2 : Segment) (records : Records s i address u s2) (commit logged : ℕ) (order : SegmentInOrder commit logged s) (within : i < SLOTS) (keeps : (j : ℕ) → (slot_in s.header j).state ≡ 1 → KeepsRecords s j) (running : (j : ℕ) → (slot_in s.header j).state ≡ 1 → RunningSlot s.header (slot_in s.header j)) (of : u.slot ≡ i) (wrap : u.wrap ≡ (slot_in s2.header i).wrap) where
   -- the slots that are Active go on
   abbrev Active : ℕ → Type 0
   Active j = (slot_in s.header j).state ≡ 1
@@ -161,7 +163,7 @@ module _ (s : Segment) (i : ℕ) (address : Uba) (u : UndoRecord) (s2 : Segment)
         subst (λ (z : Segment). KeepsRecords z j) (sym full.2) (keeps_turned Ready full.0 ready.ring ready.slots full.1 j (ready.keeps j active).0 some (ready.keeps j active).1)
   ]
 
-  few : Room.header.records < 40
+  few : Room.header.records < EXTENT_RECORDS
   few = room.few
 
   in_slots : i < length Room.header.slots
@@ -291,7 +293,7 @@ module _ (s : Segment) (i : ℕ) (address : Uba) (u : UndoRecord) (s2 : Segment)
         | inr in_ring ↦ let test : (ord_in h e == 0) ≡ false = grind (arith, nat_tests) in rw test (omega arith)
       ]
 
-  slot_numbers : (j : ℕ) → j < 16 → SlotNumbers (logged + 1) s2.header.lost (slot_in s2.header j)
+  slot_numbers : (j : ℕ) → j < SLOTS → SlotNumbers (logged + 1) s2.header.lost (slot_in s2.header j)
   slot_numbers j few_j = elim (cases_eq j i) [
     | inl at ↦ subst (λ (z : ℕ). SlotNumbers (logged + 1) s2.header.lost (slot_in s2.header z)) (sym at) own_numbers
     | inr ne ↦ let n = order.numbers.slots j few_j in let l = written_ages.lost in subst (λ (z : TableSlot). SlotNumbers (logged + 1) s2.header.lost z) (sym (other_slot_same j ne)) (record { wrap = omega (arith, n.wrap); newest = omega (arith, n.newest); before = omega (arith, n.before, l); not_lost = λ is. let k = n.not_lost is in omega (arith, k, l) })

@@ -1,8 +1,10 @@
 -- What an Active slot has in its segment stays through a write of its own transaction and of others.
-use Rattle.std.proofs.Common.{◌≡◌, ◌≢◌, ◌⊎◌, inl, inr, ◌<◌, ◌≤◌, ◌==◌, ◌+◌, ℕ, true, false, if◌then◌else◌, length, Option, Some, None, refl, sym, ◌∙◌, ap, subst, arith}
+use Rattle.std.proofs.Common.{◌*◌, ◌≡◌, ◌≢◌, ◌⊎◌, inl, inr, ◌<◌, ◌≤◌, ◌==◌, ◌+◌, ℕ, true, false, if◌then◌else◌, length, Option, Some, None, refl, sym, ◌∙◌, ap, subst, arith}
 use Rattle.std.proofs.lemmas.Bool.{cases_eq, cases_lt}
 use Rattle.std.proofs.lemmas.Bool.Decides.{nat_tests}
 use Rattle.std.proofs.lemmas.List.{get_or-set_same, get_or-set_other}
+use Rattle.rb_base.specs.declared.sizes.TheConstants.{SLOTS}
+use Rattle.rb_ring.specs.declared.extents.TheConstants.{EXTENTS, EXTENT_RECORDS}
 use Rattle.rb_base.specs.declared.ids.Uba.{Uba}
 use Rattle.rb_model.specs.Book.{turn_of}
 use Rattle.rb_segment.proofs.MayTurns.{may_free}
@@ -15,7 +17,7 @@ use Rattle.rb_undoblock.specs.declared.record.UndoRecord.{UndoRecord}
 use Rattle.rb_segment.proofs.Records.{found, finds, made_of, turn_up_to, turned_others, turned_gone, turned_records, added_found, added_others, next_turn, some_cases}
 
 -- an extent takes the next turn
-module _ (s : Segment) (e : ℕ) (ring : Ring s.header) (slots : length s.header.slots ≡ 16) (may : MayTurn s.header e) (j : ℕ) where
+module _ (s : Segment) (e : ℕ) (ring : Ring s.header) (slots : length s.header.slots ≡ SLOTS) (may : MayTurn s.header e) (j : ℕ) where
   -- a record that is left stands in the extent that it stood in
   extent_same : (k : ℕ) (r : UndoRecord) → record_in (with_header (turned e s.header) s) k ≡ Some r → extent_with (turned e s.header).extents (turn_of k) ≡ extent_with s.header.extents (turn_of k)
   extent_same k r is =
@@ -64,7 +66,7 @@ module _ (s : Segment) (e : ℕ) (ring : Ring s.header) (slots : length s.header
   fresh_turned wrap none k r is of same = none k r (was_record k r is) of same
 
 -- a record is added to the head
-module _ (i : ℕ) (address : Uba) (touched : ℕ) (r : UndoRecord) (s : Segment) (ring : Ring s.header) (few : s.header.records < 40) (room : length s.undo ≡ 320) (within : i < length s.header.slots) (bits : Also (slot_in s.header i).touched s.header.head touched) where
+module _ (i : ℕ) (address : Uba) (touched : ℕ) (r : UndoRecord) (s : Segment) (ring : Ring s.header) (few : s.header.records < EXTENT_RECORDS) (room : length s.undo ≡ (EXTENTS * EXTENT_RECORDS)) (within : i < length s.header.slots) (bits : Also (slot_in s.header i).touched s.header.head touched) where
   abbrev Added : Segment
   Added = with_record i address touched r s
 

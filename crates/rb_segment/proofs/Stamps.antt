@@ -4,6 +4,8 @@ use Rattle.std.proofs.lemmas.Bool.{cases_lt}
 use Rattle.std.proofs.lemmas.List.{length-append, get_or-set_other}
 use Rattle.std.proofs.lemmas.List.Sums.{sum_by_push}
 use Rattle.std.specs.List.{flat_map, range_with_len}
+use Rattle.rb_base.specs.declared.sizes.TheConstants.{UNIT}
+use Rattle.rb_ring.specs.declared.extents.TheConstants.{EXTENTS}
 use Rattle.rb_base.specs.Blocks.{written_to}
 use Rattle.rb_base.specs.Fields.{overwritten}
 use Rattle.rb_base.specs.Groups.{Patch, group_length, patch_length}
@@ -42,7 +44,7 @@ stamps block bits header e = flat_map (stamp_patch block bits (header_of header)
 
 -- The extents before e are stamped, in the header that was first and in its group, and the others aren't yet.
 pub record StampedTo (block bits scn : ℕ) (first : List ℕ) (held : List Patch) (header : List ℕ) (group : List Patch) (e : ℕ) : Type 0 where
-  pub long : length header ≡ 2048
+  pub long : length header ≡ UNIT
   pub others : header_of header ≡ record (header_of first) { extents = (header_of header).extents }
   pub before : (k : ℕ) → k < e → extent_in (header_of header) k ≡ stamped_extent scn bits k (extent_in (header_of first) k)
   pub behind : (k : ℕ) → e ≤ k → extent_in (header_of header) k ≡ extent_in (header_of first) k
@@ -52,7 +54,7 @@ pub record StampedTo (block bits scn : ℕ) (first : List ℕ) (held : List Patc
   pub room : group_length group ≤ group_length held + e * 24
 
 module _ (block bits scn : ℕ) (first : List ℕ) (held : List Patch) where
-  pub none_stamped : length first ≡ 2048 → StampedTo block bits scn first held first held 0
+  pub none_stamped : length first ≡ UNIT → StampedTo block bits scn first held first held 0
   none_stamped long = record {
     long = long;
     others = refl;
@@ -94,7 +96,7 @@ module _ (block bits scn : ℕ) (first : List ℕ) (held : List Patch) where
 
     -- extent e is named: it is set in the header, and its patch is in the group
     module _ (header2 : List ℕ) (group2 : List Patch) (x : Extent) where
-      pub joined : has_bit bits e ≡ true → e < 8 → x ≡ record (extent_at header e) { newest = scn } → length header2 ≡ 2048
+      pub joined : has_bit bits e ≡ true → e < EXTENTS → x ≡ record (extent_at header e) { newest = scn } → length header2 ≡ UNIT
           → group2 ≡ group ++ extent_patch block e x ∷ [] → header2 ≡ written_to block (extent_patch block e x ∷ []) header
           → header_of header2 ≡ record (header_of header) { extents = set (header_of header).extents e x }
           → extent_in (header_of header2) e ≡ x
@@ -139,7 +141,7 @@ module _ (block bits scn : ℕ) (first : List ℕ) (held : List Patch) where
       → header_of header ≡ record (header_of first) { extents = stamped scn bits 0 (header_of first).extents }
   all_stamped header group all =
       let xs = (header_of first).extents in
-      let many : length (header_of header).extents ≡ 8 = extents_many header in
+      let many : length (header_of header).extents ≡ EXTENTS = extents_many header in
       let same : (header_of header).extents ≡ stamped scn bits 0 xs =
       ext_get_or no_extent (header_of header).extents (stamped scn bits 0 xs) (many ∙ sym (length_stamped scn bits 0 xs ∙ extents_many first))
       (λ k lt.

@@ -1,6 +1,8 @@
 -- Which extent takes the next turn, as the bytes of a header say it and as the header does.
 use Rattle.std.proofs.Common.{◌≡◌, ◌<◌, ◌≤◌, ◌+◌, ℕ, zero, suc, inl, inr, List, slice_index, refl, sym, ◌∙◌, ap, subst, arith}
 use Rattle.std.proofs.lemmas.Bool.{cases_lt}
+use Rattle.rb_base.specs.declared.sizes.TheConstants.{SLOTS}
+use Rattle.rb_ring.specs.declared.extents.TheConstants.{EXTENTS}
 use Rattle.rb_base.specs.Addresses.{slot_place}
 use Rattle.rb_base.specs.Fields.{number_at}
 use Rattle.rb_ring.specs.Ring.{extent_ord, head_records}
@@ -36,14 +38,14 @@ least_of ord (suc n) = let l = least_of ord n in elim (cases_lt (ord (suc n)) (o
 ]
 
 -- where none may take the next turn, a transaction runs
-pub one_runs : (h : Header) → NoneMayTurn h → (i : ℕ) × (i < 16) × ((slot_in h i).state ≡ 1)
+pub one_runs : (h : Header) → NoneMayTurn h → (i : ℕ) × (i < SLOTS) × ((slot_in h i).state ≡ 1)
 one_runs h none =
     let l = least_of (ord_in h) 7 in
     let p = none.pinned l.0 (record { within = l.1; kept = none.kept l.0 l.1; least = λ f few kept. l.2 f few }) in
     (p.0, p.1, p.2.state)
 
 module _ (header : List ℕ) where
-  ord_read : (e : ℕ) → e < 8 → ord_in (header_of header) e ≡ extent_ord header e
+  ord_read : (e : ℕ) → e < EXTENTS → ord_in (header_of header) e ≡ extent_ord header e
   ord_read e few = ap (λ (x : Extent). x.ord) (extent_read header e few)
 
   -- a slot's parts, as the ring reads them
@@ -59,14 +61,14 @@ module _ (header : List ℕ) where
   unfolding slot_first
   first_there i = refl
 
-  pins_read : (turn i : ℕ) → i < 16 → PinsAt header turn i → Pins (header_of header) turn i
+  pins_read : (turn i : ℕ) → i < SLOTS → PinsAt header turn i → Pins (header_of header) turn i
   pins_read turn i few pins = let at = slot_read header i few in record {
     state = ap (λ (s : TableSlot). s.state) at ∙ state_there i ∙ pins.state;
     begun = λ none. pins.begun (sym (touched_there i) ∙ ap (λ (s : TableSlot). s.touched) (sym at) ∙ none);
     first = ap (λ (s : TableSlot). s.first) at ∙ first_there i ∙ pins.first;
   }
 
-  pins_bytes : (turn i : ℕ) → i < 16 → Pins (header_of header) turn i → PinsAt header turn i
+  pins_bytes : (turn i : ℕ) → i < SLOTS → Pins (header_of header) turn i → PinsAt header turn i
   pins_bytes turn i few pins = let at = slot_read header i few in record {
     state = sym (state_there i) ∙ ap (λ (s : TableSlot). s.state) (sym at) ∙ pins.state;
     begun = λ none. pins.begun (ap (λ (s : TableSlot). s.touched) at ∙ touched_there i ∙ none);

@@ -1,10 +1,12 @@
 -- A chain of live records, one record further; and where an address reads the record that it names.
 use Rattle.std.proofs.Common.{◌≡◌, ◌↔◌, ◌<◌, ◌≤◌, ◌+◌, ◌-◌, ◌*◌, ◌/◌, ◌%◌, ℕ, zero, suc, true, Bool, List, get_or, sym, ◌∙◌, ap, subst, arith}
+use Rattle.rb_undoblock.specs.declared.record.TheConstants.{UNDO_RECORDS}
+use Rattle.rb_ring.specs.declared.extents.TheConstants.{EXTENT_RECORDS}
 use Rattle.rb_base.specs.Blocks.{block_of, header_block}
 use Rattle.rb_base.specs.declared.ids.Uba.{Uba}
 use Rattle.rb_base.specs.declared.ids.Xid.{Xid}
 use Rattle.rb_base.specs.declared.shape.Shape.{Shape}
-use Rattle.rb_base.specs.declared.sizes.TheConstants.{ACTIVE}
+use Rattle.rb_base.specs.declared.sizes.TheConstants.{ACTIVE, SLOTS}
 use Rattle.rb_segment.proofs.Addresses.{address_block}
 use Rattle.rb_segment.proofs.Parts.{slot_read}
 use Rattle.rb_segment.specs.Header.{Header, Segment, header_of, segment_of, slot_in}
@@ -19,14 +21,14 @@ pub header_is : (shape : Shape) (blocks : List (List ℕ)) (g : ℕ) (header : L
 unfolding segment_of
 header_is shape blocks g header is = ap header_of is
 
-pub slot_is : (shape : Shape) (blocks : List (List ℕ)) (g i : ℕ) (header : List ℕ) → header ≡ block_of blocks (header_block shape g) → i < 16 → slot_at header i ≡ slot_in (segment_of shape blocks g).header i
+pub slot_is : (shape : Shape) (blocks : List (List ℕ)) (g i : ℕ) (header : List ℕ) → header ≡ block_of blocks (header_block shape g) → i < SLOTS → slot_at header i ≡ slot_in (segment_of shape blocks g).header i
 slot_is shape blocks g i header is few = sym (slot_read header i few) ∙ ap (λ (h : Header). slot_in h i) (header_is shape blocks g header is)
 
 -- the record that a valid address names is read in its block
 named_read : (shape : Shape) (blocks : List (List ℕ)) (g : ℕ) (h : Header) (at : Uba) → IsValid shape g h at → undo_named shape g (segment_of shape blocks g) at ≡ undo_at (block_of blocks at.block) at.rec
 named_read shape blocks g h at is =
     let behind = at.block - header_block shape g - 1 in
-    ap (λ (place : ℕ). get_or (segment_of shape blocks g).undo place no_undo) (joined (40 * (behind / 4)) (10 * (behind % 4)) at.rec) ∙ address_block shape blocks g at is.behind is.within is.rec
+    ap (λ (place : ℕ). get_or (segment_of shape blocks g).undo place no_undo) (joined (EXTENT_RECORDS * (behind / 4)) (UNDO_RECORDS * (behind % 4)) at.rec) ∙ address_block shape blocks g at is.behind is.within is.rec
   where
     joined : (a b c : ℕ) → a + (b + c) ≡ a + b + c
     joined a b c = omega arith
@@ -55,7 +57,7 @@ abbrev id_in : ℕ → ℕ → TableSlot → Xid
 id_in g i slot = record { seg = g; slot = i; wrap = slot.wrap }
 
 -- what is tested of a slot by its header's bytes
-pub active_is : (Kept : UndoRecord → Type 0) (shape : Shape) (blocks : List (List ℕ)) (g i : ℕ) (header : List ℕ) (slot : TableSlot) (sound : Bool) → header ≡ block_of blocks (header_block shape g) → i < 16 → slot ≡ slot_at header i → HasBegun (header_of header) slot
+pub active_is : (Kept : UndoRecord → Type 0) (shape : Shape) (blocks : List (List ℕ)) (g i : ℕ) (header : List ℕ) (slot : TableSlot) (sound : Bool) → header ≡ block_of blocks (header_block shape g) → i < SLOTS → slot ≡ slot_at header i → HasBegun (header_of header) slot
     → (sound ≡ true ↔ Chain Kept shape (segment_of shape blocks g) (id_in g i slot) slot.live slot.newest_at) → slot.state ≡ ACTIVE
     → sound ≡ true ↔ ((slot_in (segment_of shape blocks g).header i).state ≡ ACTIVE → IsActive Kept shape g (segment_of shape blocks g) i)
 active_is Kept shape blocks g i header slot sound is few read begun chain active =

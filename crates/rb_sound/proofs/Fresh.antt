@@ -3,6 +3,9 @@ use Rattle.std.proofs.Common.{◌≡◌, ◌⊎◌, ℕ, ◌-◌, ◌*◌, ◌%�
 use Rattle.std.proofs.lemmas.Bool.{cases_lt, le-ltb, false≢true, eqb-true, ne_eqb, and_parts, agree_below_at}
 use Rattle.std.proofs.lemmas.List.{get_or-replicate}
 use Rattle.std.proofs.Math.Nat.{mul-mod_right}
+use Rattle.rb_base.specs.declared.sizes.TheConstants.{SEGMENT_BLOCKS, SLOTS}
+use Rattle.rb_ring.specs.declared.extents.TheConstants.{EXTENTS}
+use Rattle.rb_cell.specs.declared.cell.TheConstants.{CELLS}
 use Rattle.rb_base.specs.declared.shape.Shape.{Shape}
 use Rattle.rb_base.specs.Blocks.{block_of, block_kind, fresh_head, fresh_rest, fresh_blocks, fresh_segment, table_blocks}
 use Rattle.rb_itl.specs.Entries.{entry_at, free_entry}
@@ -25,11 +28,11 @@ use Rattle.rb_txntable.specs.declared.slots.TableSlot.{TableSlot}
 abbrev header_of : ℕ → List ℕ
 header_of n = fresh_head 2 n ++ fresh_segment
 
-slots_test : (n i : ℕ) → i < 16 → ((slot_state (header_of n) i == 0) && (slot_before (header_of n) i == 0)) ≡ true
+slots_test : (n i : ℕ) → i < SLOTS → ((slot_state (header_of n) i == 0) && (slot_before (header_of n) i == 0)) ≡ true
 unfolding slot_state slot_before
-slots_test n i few = agree_below_at (λ (k : ℕ). (slot_state (header_of n) k == 0) && (slot_before (header_of n) k == 0)) (λ (_ : ℕ). true) 16 i refl few
+slots_test n i few = agree_below_at (λ (k : ℕ). (slot_state (header_of n) k == 0) && (slot_before (header_of n) k == 0)) (λ (_ : ℕ). true) SLOTS i refl few
 
-extents_test : (n e : ℕ) → e < 8 → (extent_newest (header_of n) e == 0) ≡ true
+extents_test : (n e : ℕ) → e < EXTENTS → (extent_newest (header_of n) e == 0) ≡ true
 unfolding extent_newest
 extents_test n e few = agree_below_at (λ (k : ℕ). extent_newest (header_of n) k == 0) (λ (_ : ℕ). true) 8 e refl few
 
@@ -48,7 +51,7 @@ lost_zero n = refl
 abbrev ord_of : ℕ → ℕ
 ord_of e = if e == 0 then 2 else if e == 1 then 1 else 0
 
-ord_fresh : (n e : ℕ) → e < 8 → extent_ord (header_of n) e ≡ ord_of e
+ord_fresh : (n e : ℕ) → e < EXTENTS → extent_ord (header_of n) e ≡ ord_of e
 unfolding extent_ord
 ord_fresh n e few = eqb-true (extent_ord (header_of n) e) (ord_of e) (agree_below_at (λ (k : ℕ). extent_ord (header_of n) k == ord_of k) (λ (_ : ℕ). true) 8 e refl few)
 
@@ -99,8 +102,8 @@ header_kind front rest behind whole = rw (behind, whole) refl
 kind_of : (shape : Shape) (g : ℕ) → block_kind shape (header_block shape g) ≡ 2
 kind_of shape g =
     let which = header_block shape g in
-    let back : which - table_blocks shape ≡ 33 * g = omega arith in
-    header_kind (nat_lt which (table_blocks shape)) ((which - table_blocks shape) % 33) (le-ltb which (table_blocks shape) (omega arith)) (rw back (mul-mod_right 33 g))
+    let back : which - table_blocks shape ≡ SEGMENT_BLOCKS * g = omega arith in
+    header_kind (nat_lt which (table_blocks shape)) ((which - table_blocks shape) % SEGMENT_BLOCKS) (le-ltb which (table_blocks shape) (omega arith)) (rw back (mul-mod_right SEGMENT_BLOCKS g))
 
 pub segments_fresh : (shape : Shape) (commit g : ℕ) → g < shape.segments → IsSegment commit (block_of (fresh_blocks shape) (header_block shape g))
 segments_fresh shape commit g lt =
@@ -109,7 +112,7 @@ segments_fresh shape commit g lt =
     subst (IsSegment commit) (sym (new_block shape which (omega arith) ∙ kind)) (segment_of commit which)
 
 -- no slot of it is Active
-idle_fresh : (shape : Shape) (g i : ℕ) → g < shape.segments → i < 16 → slot_state (block_of (fresh_blocks shape) (header_block shape g)) i ≡ 0
+idle_fresh : (shape : Shape) (g i : ℕ) → g < shape.segments → i < SLOTS → slot_state (block_of (fresh_blocks shape) (header_block shape g)) i ≡ 0
 idle_fresh shape g i lt few =
     let which = header_block shape g in
     let kind = ap (λ (kind : ℕ). fresh_head kind which ++ fresh_rest kind) (kind_of shape g) in
@@ -126,18 +129,18 @@ active_fresh Kept shape g i there few runs =
 abbrev rows_of : ℕ → List ℕ
 rows_of n = fresh_head 1 n ++ fresh_rest 1
 
-values_test : (n c : ℕ) → c < 16 → (value_length (rows_of n) c == 0) ≡ true
+values_test : (n c : ℕ) → c < CELLS → (value_length (rows_of n) c == 0) ≡ true
 unfolding value_length
-values_test n c few = agree_below_at (λ (k : ℕ). value_length (rows_of n) k == 0) (λ (_ : ℕ). true) 16 c refl few
+values_test n c few = agree_below_at (λ (k : ℕ). value_length (rows_of n) k == 0) (λ (_ : ℕ). true) CELLS c refl few
 
 rows_fresh : (shape : Shape) (which : ℕ) → which < table_blocks shape → block_of (fresh_blocks shape) which ≡ rows_of which
 rows_fresh shape which lt = new_block shape which (omega arith) ∙ ap (λ (kind : ℕ). fresh_head kind which ++ fresh_rest kind) (of_rows shape which lt)
 
 -- a block whose entries are free, whose cells are empty and whose values have no length
-home_empty : (shape : Shape) (commit : ℕ) (wrap_of : ℕ → ℕ → ℕ) (home : ℕ) (block : List ℕ) → home_of block ≡ empty_home → ((c : ℕ) → c < 16 → value_length block c ≡ 0) → IsHomeSound shape commit wrap_of home block
+home_empty : (shape : Shape) (commit : ℕ) (wrap_of : ℕ → ℕ → ℕ) (home : ℕ) (block : List ℕ) → home_of block ≡ empty_home → ((c : ℕ) → c < CELLS → value_length block c ≡ 0) → IsHomeSound shape commit wrap_of home block
 home_empty shape commit wrap_of home block empty values =
     let free : (i : ℕ) → i < 8 → entry_at block i ≡ free_entry = λ i few. sym (entry_read block i free_entry few) ∙ ap (λ (h : Home). slice_index_or h.entries i free_entry) empty ∙ get_or-replicate 8 i free_entry free_entry few in
-    let cell : (c : ℕ) → c < 16 → cell_at block c ≡ empty_cell = λ c few. sym (cell_read block c empty_cell few) ∙ ap (λ (h : Home). slice_index_or h.cells c empty_cell) empty ∙ get_or-replicate 16 c empty_cell empty_cell few in
+    let cell : (c : ℕ) → c < CELLS → cell_at block c ≡ empty_cell = λ c few. sym (cell_read block c empty_cell few) ∙ ap (λ (h : Home). slice_index_or h.cells c empty_cell) empty ∙ get_or-replicate CELLS c empty_cell empty_cell few in
     record {
       entries = λ i few. subst (IsEntrySound shape commit wrap_of) (sym (free i few)) (record { kind = omega arith; taken = λ not_free. absurd (not_free refl) });
       cells = record {

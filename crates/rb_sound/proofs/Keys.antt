@@ -3,7 +3,7 @@ use Rattle.std.proofs.Common.{◌≡◌, ◌↔◌, ℕ, ◌<◌, true, not, ◌
 use Rattle.std.proofs.lemmas.Bool.{cases_lt, false_from_ne_true, and_parts, eqb-true, eq-eqb}
 use Rattle.std.specs.Option.{option_eq}
 use Rattle.rb_cell.specs.declared.cell.Cell.{Cell}
-use Rattle.rb_cell.specs.declared.cell.TheConstants.{ROW}
+use Rattle.rb_cell.specs.declared.cell.TheConstants.{CELLS, ROW}
 use Rattle.rb_cell.specs.Cells.{cell_at}
 use Rattle.rb_heap.specs.Homes.{home_of, is_keyed, empty_cell, IsFirst, IsNowhere}
 use Rattle.rb_heap.proofs.Reading.{cell_read}
@@ -14,7 +14,7 @@ two_firsts block key c other lt first has has_too =
     let not_here = first.lower key c lt has_too in
     cc
 
-pub apart_of_firsts : (block : List ℕ) → ((c : ℕ) → c < 16 → IsFirstKeyed block c) → AreKeysApart block
+pub apart_of_firsts : (block : List ℕ) → ((c : ℕ) → c < CELLS → IsFirstKeyed block c) → AreKeysApart block
 apart_of_firsts block firsts = record {
   one = λ key c other few others_few has has_too.
       elim (cases_lt c other) [
@@ -26,7 +26,7 @@ apart_of_firsts block firsts = record {
       ];
 }
 
-pub first_of_apart : (block : List ℕ) (c : ℕ) → c < 16 → AreKeysApart block → IsFirstKeyed block c
+pub first_of_apart : (block : List ℕ) (c : ℕ) → c < CELLS → AreKeysApart block → IsFirstKeyed block c
 first_of_apart block c few apart = record {
   lower = λ key k lt has.
       false_from_ne_true (is_keyed key (cell_at block k)) (λ other. let e = apart.one key k c (omega arith) few other has in absurd (omega arith));
@@ -37,7 +37,7 @@ pub own_key : (key : ℕ) (cell : Cell) → is_keyed key cell ≡ true → key �
 own_key key cell has = sym (eqb-true cell.key key (and_parts ((cell.state == ROW) || not (cell.lock == 0)) (cell.key == key) has).1)
 
 -- `found` is the first cell with that key, if there is one
-pub found_is_first : (block : List ℕ) (c key : ℕ) (found : Option ℕ) → c < 16 → key ≡ (cell_at block c).key → is_keyed key (cell_at block c) ≡ true
+pub found_is_first : (block : List ℕ) (c key : ℕ) (found : Option ℕ) → c < CELLS → key ≡ (cell_at block c).key → is_keyed key (cell_at block c) ≡ true
     → IfSome found (λ f. IsFirst (is_keyed key) (home_of block).cells f) → IfNone found (IsNowhere (is_keyed key) (home_of block).cells)
     → option_eq nat_eq found (Some c) ≡ true ↔ IsFirstKeyed block c
 found_is_first block c key None few is has some none =

@@ -2,6 +2,7 @@
 use Rattle.std.proofs.Common.{◌≡◌, ◌<◌, ◌≤◌, ◌+◌, ◌-◌, ◌*◌, ℕ, zero, suc, get_or, inl, inr, ap, subst, arith}
 use Rattle.std.proofs.Math.Nat.{div-add-mod, mod-lt}
 use Rattle.std.proofs.lemmas.Bool.{cases_lt}
+use Rattle.rb_ring.specs.declared.extents.TheConstants.{EXTENTS, EXTENT_RECORDS}
 use Rattle.rb_base.specs.Blocks.{header_block}
 use Rattle.rb_base.specs.declared.ids.Uba.{Uba}
 use Rattle.rb_base.specs.declared.ids.Xid.{Xid}
@@ -20,7 +21,7 @@ module _ (Kept : UndoRecord → Type 0) (shape : Shape) (s : Segment) (x : Xid) 
 
   -- the place that an address names
   abbrev place : Uba → ℕ
-  place at = 40 * extent_named shape x.seg at + position_named shape x.seg at
+  place at = EXTENT_RECORDS * extent_named shape x.seg at + position_named shape x.seg at
 
   -- record j of a chain of n
   record Links (n j : ℕ) (at : Uba) : Type 0 where
@@ -38,7 +39,7 @@ module _ (Kept : UndoRecord → Type 0) (shape : Shape) (s : Segment) (x : Xid) 
   four : 0 < 4
   four = omega arith
 
-  place_few : (at : Uba) → IsValid shape x.seg s.header at → place at < 320
+  place_few : (at : Uba) → IsValid shape x.seg s.header at → place at < (EXTENTS * EXTENT_RECORDS)
   place_few at is =
       let d = at.block - header_block shape x.seg - 1 in
       let a = div-add-mod d 4 in
@@ -53,12 +54,12 @@ module _ (Kept : UndoRecord → Type 0) (shape : Shape) (s : Segment) (x : Xid) 
       let record_is = ap (λ (i : ℕ). (get_or s.undo i no_undo).number) same in
       omega (arith, first, second, record_is, j_lt, k_lt)
 
-  pub short : (n : ℕ) (at : Uba) → Chain Kept shape s x n at → n ≤ 320
-  short n at chain = elim (cases_lt 320 n) [
+  pub short : (n : ℕ) (at : Uba) → Chain Kept shape s x n at → n ≤ (EXTENTS * EXTENT_RECORDS)
+  short n at chain = elim (cases_lt (EXTENTS * EXTENT_RECORDS) n) [
     | inr le ↦ le
     | inl more ↦
-        let last = links n 320 at chain more in
-        let again : (e : ℕ) × (e < 320) × (place (behind e at) ≡ place (behind 320 at)) = onto 320 0 (λ e. place (behind e at)) (λ e lt. let l = links n e at chain (omega arith) in (omega arith, place_few (behind e at) l.valid)) (λ e lt lower below same. let is = one_number n lower e at chain (omega arith) (omega arith) same in omega (arith, is, below)) (place (behind 320 at)) (omega arith) (place_few (behind 320 at) last.valid) in
-        let is = one_number n again.0 320 at chain (omega (arith, again.1, more)) more again.2 in
+        let last = links n (EXTENTS * EXTENT_RECORDS) at chain more in
+        let again : (e : ℕ) × (e < (EXTENTS * EXTENT_RECORDS)) × (place (behind e at) ≡ place (behind (EXTENTS * EXTENT_RECORDS) at)) = onto (EXTENTS * EXTENT_RECORDS) 0 (λ e. place (behind e at)) (λ e lt. let l = links n e at chain (omega arith) in (omega arith, place_few (behind e at) l.valid)) (λ e lt lower below same. let is = one_number n lower e at chain (omega arith) (omega arith) same in omega (arith, is, below)) (place (behind (EXTENTS * EXTENT_RECORDS) at)) (omega arith) (place_few (behind (EXTENTS * EXTENT_RECORDS) at) last.valid) in
+        let is = one_number n again.0 (EXTENTS * EXTENT_RECORDS) at chain (omega (arith, again.1, more)) more again.2 in
         absurd (omega (arith, is, again.1))
   ]

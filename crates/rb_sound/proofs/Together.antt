@@ -1,5 +1,6 @@
 -- What is tested of the headers, and what is tested of the blocks of rows by the numbers that the headers have.
 use Rattle.std.proofs.Common.{◌≡◌, ◌↔◌, ℕ, zero, suc, ◌%◌, ◌<◌, ◌≤◌, Bool, true, List, subst, sym, arith}
+use Rattle.rb_base.specs.declared.sizes.TheConstants.{SLOTS}
 use Rattle.rb_base.specs.declared.shape.Shape.{Shape}
 use Rattle.rb_base.specs.Blocks.{block_of}
 use Rattle.rb_itl.specs.declared.slots.Entry.{Entry}
@@ -14,7 +15,7 @@ use Rattle.rb_sound.specs.Sound.{AreSegmentsSound, AreHomesSound, AreSound}
 
 -- the two are alike at each slot of the segments of a file
 abbrev pub AreAlike : Shape → (ℕ → ℕ → ℕ) → (ℕ → ℕ → ℕ) → Type 0
-AreAlike shape wrap_of other = (seg slot : ℕ) → seg < shape.segments → slot < 16 → wrap_of seg slot ≡ other seg slot
+AreAlike shape wrap_of other = (seg slot : ℕ) → seg < shape.segments → slot < SLOTS → wrap_of seg slot ≡ other seg slot
 
 -- what is in order stays so as the commit number rises or stays, and no slot is taken
 taken_later : (shape : Shape) (commit later : ℕ) (wrap_of other : ℕ → ℕ → ℕ) (entry : Entry) → commit ≤ later → AreAlike shape wrap_of other → IsTaken shape commit wrap_of entry → IsTaken shape later other entry

@@ -11,7 +11,7 @@ use Rattle.rb_base.specs.Logs.{Logs, group_of}
 use Rattle.rb_base.specs.declared.ids.Uba.{Uba}
 use Rattle.rb_base.specs.declared.ids.Xid.{Xid}
 use Rattle.rb_base.specs.declared.shape.Shape.{Shape}
-use Rattle.rb_base.specs.declared.sizes.TheConstants.{WORN}
+use Rattle.rb_base.specs.declared.sizes.TheConstants.{SLOTS, WORN}
 use Rattle.rb_base.specs.declared.store.Store.{Ghosts}
 use Rattle.law_crash.specs.Made.{GivesOne, WriteMade}
 use Rattle.rb_model.specs.Change.{Kind}
@@ -39,7 +39,7 @@ abbrev pub IsAskMade : Shape → List (List ℕ) → List (List ℕ) → Ask →
 IsAskMade shape before now ask x = (address : Uba) × (u : UndoRecord) × (ready : Header)
     × IsWriterOf shape before ask.own x ready × (u.table ≡ ask.table) × (u.key ≡ ask.key) × (u.wrap ≡ x.wrap)
     × (u.home ≡ home_block shape ask.table ask.key)
-    × IsWritten shape (16 * x.seg + x.slot) (adds_row ask.op) (kind_of ask.op) address u before now
+    × IsWritten shape (SLOTS * x.seg + x.slot) (adds_row ask.op) (kind_of ask.op) address u before now
 
 -- or refused
 abbrev pub IsAskRefused : Shape → List (List ℕ) → Ask → ℕ → AttemptFault → Type 0
@@ -73,7 +73,7 @@ module _ {S : Type 0} (store : Ghosts S) (told : store.tells) (old new : S) (h :
     home_in : (w.1).home < table_blocks h.shape
     home_in = subst (λ (b : ℕ). b < table_blocks h.shape) (sym w.7) (which_in h xids Before about.stand ask.table ask.key first last)
 
-    t_in : 16 * x.seg + x.slot < 16 * h.shape.segments
+    t_in : SLOTS * x.seg + x.slot < SLOTS * h.shape.segments
     t_in =
         let g = writers.within h xids Before s ask.own about x w.2 w.3 in
         let i = writers.few h xids Before s ask.own about x w.2 w.3 in
@@ -82,7 +82,7 @@ module _ {S : Type 0} (store : Ghosts S) (told : store.tells) (old new : S) (h :
     -- the write, as it is made
     pub write_made : WriteMade h xids s ask.table ask.key (action_by ask.op) x Before now
     write_made =
-        let more = write_logged h xids Before now (16 * x.seg + x.slot) (adds_row ask.op) (kind_of ask.op) w.0 w.1 about.stand t_in home_in w.8 in
+        let more = write_logged h xids Before now (SLOTS * x.seg + x.slot) (adds_row ask.op) (kind_of ask.op) w.0 w.1 about.stand t_in home_in w.8 in
         record {
           in_slot = writers.writes_in h xids Before s ask.own about x w.2 w.3;
           granted = answered h xids Before now s ask about s_in first last mine x w.2 w.3 w.0 w.1 asked takes w.8 early;
@@ -90,15 +90,15 @@ module _ {S : Type 0} (store : Ghosts S) (told : store.tells) (old new : S) (h :
           last = more;
           ids = λ r t owns. ids_are h xids Before now s ask about s_in first last mine x w.2 w.3 w.0 w.1 asked takes w.8 early t owns.owner (owner_within h xids (segments_of h.shape Before) (homes_of h.shape Before) (stood_of h xids Before about.stand) t owns.owner owns.at) owns.at;
           id = id_is h xids Before now s ask about s_in first last mine x w.2 w.3 w.0 w.1 asked takes w.8 early;
-          tells = write_tells h xids Before now (16 * x.seg + x.slot) (adds_row ask.op) (kind_of ask.op) w.0 w.1 about.stand t_in w.8;
+          tells = write_tells h xids Before now (SLOTS * x.seg + x.slot) (adds_row ask.op) (kind_of ask.op) w.0 w.1 about.stand t_in w.8;
           address = w.0;
           undo = w.1;
           of_table = w.4;
           of_key = w.5;
           of_home = w.7;
           group =
-              subst (λ (k : Kind). IsWritten h.shape (16 * x.seg + x.slot) (adds (action_by ask.op)) k w.0 w.1 Before now) (sym (kind_is ask.op))
-              (subst (λ (b : Bool). IsWritten h.shape (16 * x.seg + x.slot) b (kind_of ask.op) w.0 w.1 Before now) (sym (adds_is ask.op)) w.8);
+              subst (λ (k : Kind). IsWritten h.shape (SLOTS * x.seg + x.slot) (adds (action_by ask.op)) k w.0 w.1 Before now) (sym (kind_is ask.op))
+              (subst (λ (b : Bool). IsWritten h.shape (SLOTS * x.seg + x.slot) b (kind_of ask.op) w.0 w.1 Before now) (sym (adds_is ask.op)) w.8);
         }
 
   -- what a group makes, where one is given

@@ -6,7 +6,7 @@ use Rattle.rb_write.specs.declared.ask.Ask.{Ask}
 use Rattle.rb_base.specs.Blocks.{block_of, table_blocks}
 use Rattle.rb_base.specs.declared.ids.Uba.{Uba}
 use Rattle.rb_base.specs.declared.ids.Xid.{Xid}
-use Rattle.rb_base.specs.declared.sizes.TheConstants.{WORN}
+use Rattle.rb_base.specs.declared.sizes.TheConstants.{SLOTS, WORN}
 use Rattle.rb_heap.specs.Choices.{HasNoChoice, IsEntryChoice}
 use Rattle.rb_heap.specs.Cleaning.{cleaned_home}
 use Rattle.rb_heap.specs.Homes.{Home, home_entry, home_of}
@@ -59,9 +59,9 @@ has_place ready room (inr (e, may, is)) none =
 
 module _ (h : State) (xids : List Xid) (before now : List (List ℕ)) (s : ℕ) (ask : Ask) (about : IsAbout h xids s ask.own before) (s_in : s ≤ length h.sessions) (first : 1 ≤ ask.table) (last : ask.table ≤ h.shape.tables) (mine : MayWrite h s ask.table ask.key)
     (x : Xid) (ready : Header) (writer : IsWriterOf h.shape before ask.own x ready) (address : Uba) (u : UndoRecord) (asked : IsAsked h ask x u) (takes : TakesWrite (home_for h.shape before ask) (adds_row ask.op) ask.key)
-    (is : IsWritten h.shape (16 * x.seg + x.slot) (adds_row ask.op) (kind_of ask.op) address u before now) (young : logged_of h.shape before < WORN) where
+    (is : IsWritten h.shape (SLOTS * x.seg + x.slot) (adds_row ask.op) (kind_of ask.op) address u before now) (young : logged_of h.shape before < WORN) where
   abbrev At : ℕ
-  At = 16 * x.seg + x.slot
+  At = SLOTS * x.seg + x.slot
 
   abbrev Segs : ℕ → Segment
   Segs = segments_of h.shape before
@@ -75,17 +75,17 @@ module _ (h : State) (xids : List Xid) (before now : List (List ℕ)) (s : ℕ) 
   g_in : x.seg < h.shape.segments
   g_in = writers.within h xids before s ask.own about x ready writer
 
-  i_few : x.slot < 16
+  i_few : x.slot < SLOTS
   i_few = writers.few h xids before s ask.own about x ready writer
 
-  seg_is : At / 16 ≡ x.seg
+  seg_is : At / SLOTS ≡ x.seg
   seg_is = writers.at_seg h xids before s ask.own about x ready writer
 
-  slot_is : At % 16 ≡ x.slot
+  slot_is : At % SLOTS ≡ x.slot
   slot_is = writers.at_slot h xids before s ask.own about x ready writer
 
-  xid_is : x ≡ record { seg = At / 16; slot = At % 16; wrap = u.wrap }
-  xid_is = one_xid x (record { seg = At / 16; slot = At % 16; wrap = u.wrap }) (sym seg_is) (sym slot_is) (sym asked.wrap)
+  xid_is : x ≡ record { seg = At / SLOTS; slot = At % SLOTS; wrap = u.wrap }
+  xid_is = one_xid x (record { seg = At / SLOTS; slot = At % SLOTS; wrap = u.wrap }) (sym seg_is) (sym slot_is) (sym asked.wrap)
 
   -- the home of the record is that of the ask
   home_is : cleaned_home (env_of h.shape before).look (home_of (block_of before u.home)) ≡ Cleaned
@@ -105,20 +105,20 @@ module _ (h : State) (xids : List Xid) (before now : List (List ℕ)) (s : ℕ) 
       recorded_ready : IsHeaderReady (Segs x.seg).header x.slot is.recorded.ready
       recorded_ready =
           subst (λ (g : ℕ). IsHeaderReady (Segs g).header x.slot is.recorded.ready) seg_is
-          (subst (λ (i : ℕ). IsHeaderReady (Segs (At / 16)).header i is.recorded.ready) slot_is
-          (subst (λ (z : Header). IsHeaderReady z (At % 16) is.recorded.ready) (sym (header_is h.shape before (At / 16))) is.recorded.is_ready))
+          (subst (λ (i : ℕ). IsHeaderReady (Segs (At / SLOTS)).header i is.recorded.ready) slot_is
+          (subst (λ (z : Header). IsHeaderReady z (At % SLOTS) is.recorded.ready) (sym (header_is h.shape before (At / SLOTS))) is.recorded.is_ready))
 
   pub answered : first_of (write_tests h (logged_of h.shape before) x.seg x.slot s ask.table ask.key (action_by ask.op)) Done ≡ Done
   answered = not_refused h xids before s (logged_of h.shape before) ask about first last mine x ready writer (record { takes = takes; entry = entry_there }) place_there young
 
   -- the record is the next one of the segment
   place_is : Made.place ≡ place_of h.shape address
-  place_is = sym (ap (place_of h.shape) is.recorded.at ∙ (next_place_is h.shape (At / 16) is.recorded.room had.ring had.few ∙ numbered (At / 16) seg_is is.recorded.room.writes had.writes))
+  place_is = sym (ap (place_of h.shape) is.recorded.at ∙ (next_place_is h.shape (At / SLOTS) is.recorded.room had.ring had.few ∙ numbered (At / SLOTS) seg_is is.recorded.room.writes had.writes))
     where
-      order : SegmentInOrder (commit_scn h.shape before) (logged_of h.shape before) (Segs (At / 16))
-      order = about.stand.standing.stands.in_order (At / 16) (let g = g_in in omega (arith, g, seg_is))
+      order : SegmentInOrder (commit_scn h.shape before) (logged_of h.shape before) (Segs (At / SLOTS))
+      order = about.stand.standing.stands.in_order (At / SLOTS) (let g = g_in in omega (arith, g, seg_is))
 
-      had : RoomIs (λ j. ⊥) (Segs (At / 16)) (segment.Room h.shape At address u before now (commit_scn h.shape before) (logged_of h.shape before) order is.recorded)
+      had : RoomIs (λ j. ⊥) (Segs (At / SLOTS)) (segment.Room h.shape At address u before now (commit_scn h.shape before) (logged_of h.shape before) order is.recorded)
       had = segment.room h.shape At address u before now (commit_scn h.shape before) (logged_of h.shape before) order is.recorded
 
       numbered : (g : ℕ) → g ≡ x.seg → (n : ℕ) → n ≡ (Segs g).header.writes → record { seg = g; index = n + 1 } ≡ Made.place
@@ -136,10 +136,10 @@ module _ (h : State) (xids : List Xid) (before now : List (List ℕ)) (s : ℕ) 
     table = (first, last);
   }
 
-  not_held : IsNotHeld (cleaned_home (env_of h.shape before).look (home_of (block_of before u.home))) (record { seg = At / 16; slot = At % 16; wrap = u.wrap }) u.key
+  not_held : IsNotHeld (cleaned_home (env_of h.shape before).look (home_of (block_of before u.home))) (record { seg = At / SLOTS; slot = At % SLOTS; wrap = u.wrap }) u.key
   not_held =
-      subst (λ (z : Home). IsNotHeld z (record { seg = At / 16; slot = At % 16; wrap = u.wrap }) u.key) (sym home_is)
-      (subst (λ (k : ℕ). IsNotHeld Cleaned (record { seg = At / 16; slot = At % 16; wrap = u.wrap }) k) (sym asked.key)
+      subst (λ (z : Home). IsNotHeld z (record { seg = At / SLOTS; slot = At % SLOTS; wrap = u.wrap }) u.key) (sym home_is)
+      (subst (λ (k : ℕ). IsNotHeld Cleaned (record { seg = At / SLOTS; slot = At % SLOTS; wrap = u.wrap }) k) (sym asked.key)
       (subst (λ (z : Xid). IsNotHeld Cleaned z ask.key) xid_is (words.not_held h xids before s ask.own about x ready writer ask.table ask.key first last mine.0)))
 
   -- what is owed leaves room for the record, and for its slot
@@ -157,10 +157,10 @@ module _ (h : State) (xids : List Xid) (before now : List (List ℕ)) (s : ℕ) 
   next_is : after_write h s At (slot_of Segs At).state Made ≡ written h s x.seg x.slot Made
   next_is = ap (λ (z : List Book). let n : State = record h { sessions = set h.sessions (s - 1) (with_changes h s (session_own h s ++ Made ∷ [])); books = z } in n) books_are
     where
-      books_are : set h.books (At / 16) (marked (At % 16) (ready_book h s ((slot_of Segs At).state == 1) (At / 16) (At % 16))) ≡ set h.books x.seg (marked x.slot (ready_book h s (has_slot h s x.seg x.slot) x.seg x.slot))
+      books_are : set h.books (At / SLOTS) (marked (At % SLOTS) (ready_book h s ((slot_of Segs At).state == 1) (At / SLOTS) (At % SLOTS))) ≡ set h.books x.seg (marked x.slot (ready_book h s (has_slot h s x.seg x.slot) x.seg x.slot))
       books_are =
-          ap (λ (b : Bool). set h.books (At / 16) (marked (At % 16) (ready_book h s b (At / 16) (At % 16)))) (writers.active_is h xids before s ask.own about x ready writer ∙ sym (writers.has_is h xids before s ask.own about x ready writer))
-          ∙ (ap (λ (g : ℕ). set h.books g (marked (At % 16) (ready_book h s (has_slot h s x.seg x.slot) g (At % 16)))) seg_is
+          ap (λ (b : Bool). set h.books (At / SLOTS) (marked (At % SLOTS) (ready_book h s b (At / SLOTS) (At % SLOTS)))) (writers.active_is h xids before s ask.own about x ready writer ∙ sym (writers.has_is h xids before s ask.own about x ready writer))
+          ∙ (ap (λ (g : ℕ). set h.books g (marked (At % SLOTS) (ready_book h s (has_slot h s x.seg x.slot) g (At % SLOTS)))) seg_is
           ∙ ap (λ (i : ℕ). set h.books x.seg (marked i (ready_book h s (has_slot h s x.seg x.slot) x.seg i))) slot_is)
 
   pub stands : BlocksStand (written h s x.seg x.slot Made) xids now
@@ -168,7 +168,7 @@ module _ (h : State) (xids : List Xid) (before now : List (List ℕ)) (s : ℕ) 
       (write_keeps_machine h xids before now s At (adds_row ask.op) Made (kind_of ask.op) address u (let g = g_in in let i = i_few in omega (arith, g, i)) (about.session, s_in) about.stand
       (writers.takes_at h xids before s ask.own about x ready writer) home_in not_held is same_change has_room)
 
-  t_in : At < 16 * h.shape.segments
+  t_in : At < SLOTS * h.shape.segments
   t_in = let g = g_in in let i = i_few in omega (arith, g, i)
 
   abbrev Next : State
@@ -191,6 +191,6 @@ module _ (h : State) (xids : List Xid) (before now : List (List ℕ)) (s : ℕ) 
       }
 
   -- and each slot that was owned keeps its own
-  pub ids_are : (v : ℕ) (o : Owner) → v < 16 * h.shape.segments → owner_at h v ≡ Some o → (env_of h.shape now).xid v ≡ (env_of h.shape before).xid v
+  pub ids_are : (v : ℕ) (o : Owner) → v < SLOTS * h.shape.segments → owner_at h v ≡ Some o → (env_of h.shape now).xid v ≡ (env_of h.shape before).xid v
   ids_are = ids_after h xids before now s At (adds_row ask.op) Made (kind_of ask.op) address u t_in (about.session, s_in) about.stand
       (writers.takes_at h xids before s ask.own about x ready writer) home_in not_held is same_change has_room

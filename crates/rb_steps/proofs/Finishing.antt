@@ -3,6 +3,7 @@ use Rattle.std.proofs.Common.{◌≡◌, inl, inr, ◌<◌, ◌≤◌, ◌+◌, 
 use Rattle.std.proofs.lemmas.Bool.{cases_eq}
 use Rattle.std.proofs.lemmas.List.{get_or-set_same, get_or-set_other, length-set}
 use Rattle.std.specs.List.{AllByRecursion, flat_map, range_with_len}
+use Rattle.rb_base.specs.declared.sizes.TheConstants.{SLOTS}
 use Rattle.rb_base.proofs.Each.{all_so}
 use Rattle.rb_base.specs.Blocks.{after_group, block_of, header_block, written_to, StaysBehind}
 use Rattle.rb_base.specs.Groups.{Patch, IsGroup, IsPatch}
@@ -74,7 +75,7 @@ module _ (h : State) (s : ℕ) (session : Session) (s_in : (1 ≤ s) × (s ≤ l
   lives_same : (env : Rattle.law_home.specs.Walk.Env) → lives_of Other env ≡ lives_of h env
   lives_same env =
       let each : (λ (t : ℕ). owned Other (env.xid t) (owner_at h t)) ≡ (λ (t : ℕ). owned h (env.xid t) (owner_at h t)) = λ i t. owned_same (env.xid t) (owner_at h t) i in
-      ap (λ (f : ℕ → List Rattle.law_home.specs.Walk.Change). map f (range_with_len 0 (16 * h.shape.segments))) each
+      ap (λ (f : ℕ → List Rattle.law_home.specs.Walk.Change). map f (range_with_len 0 (SLOTS * h.shape.segments))) each
 
   pub cursors_free : (xids : List Xid) (blocks : List (List ℕ)) → BlocksStand h xids blocks → BlocksStand Other xids blocks
   cursors_free xids blocks stand = record {
@@ -100,21 +101,21 @@ module _ (h : State) (s : ℕ) (session : Session) (s_in : (1 ≤ s) × (s ≤ l
 pub scn_is : (h : State) (xids : List Xid) (blocks : List (List ℕ)) → BlocksStand h xids blocks → commit_scn h.shape blocks ≡ last_scn h.commits
 scn_is h xids blocks stand = stand.standing.stands.number ∙ last_commits h.shape h.commits.base h.commits.list xids [] stand.tell.counted refl
 
-module _ (h : State) (xids : List Xid) (before now : List (List ℕ)) (s : ℕ) (x : Xid) (stand : BlocksStand h xids before) (there : x.seg < h.shape.segments) (few : x.slot < 16) (owned_by : Owned h s x.seg x.slot)
+module _ (h : State) (xids : List Xid) (before now : List (List ℕ)) (s : ℕ) (x : Xid) (stand : BlocksStand h xids before) (there : x.seg < h.shape.segments) (few : x.slot < SLOTS) (owned_by : Owned h s x.seg x.slot)
     (runs : Runs (header_of (block_of before (header_block h.shape x.seg))) x) where
   abbrev T : ℕ
-  T = 16 * x.seg + x.slot
+  T = SLOTS * x.seg + x.slot
 
   abbrev at : ℕ
   at = header_block h.shape x.seg
 
-  seg_is : T / 16 ≡ x.seg
+  seg_is : T / SLOTS ≡ x.seg
   seg_is = omega (arith, few)
 
-  slot_is : T % 16 ≡ x.slot
+  slot_is : T % SLOTS ≡ x.slot
   slot_is = omega (arith, few)
 
-  t_in : T < 16 * h.shape.segments
+  t_in : T < SLOTS * h.shape.segments
   t_in = omega (arith, there, few)
 
   owns : Owns h s T
@@ -141,7 +142,7 @@ module _ (h : State) (xids : List Xid) (before now : List (List ℕ)) (s : ℕ) 
 
   -- one group of the header's block
   module _ (group : List Patch) (some : 1 ≤ length group) (is_group : IsGroup group) (only : AllByRecursion (λ p. p.block ≡ at) group) (made : now ≡ after_group (logged_of h.shape before + 1) group before) where
-    on : GroupOn h.shape (λ b. b ≡ header_block h.shape (T / 16)) before now
+    on : GroupOn h.shape (λ b. b ≡ header_block h.shape (T / SLOTS)) before now
     on = record {
       patches = group;
       some = some;
@@ -157,28 +158,28 @@ module _ (h : State) (xids : List Xid) (before now : List (List ℕ)) (s : ℕ) 
         ∙ ap header_of (sym copied)
 
     pub logged : logged_of h.shape now ≡ logged_of h.shape before + 1
-    logged = logged_next h.shape (λ b. b ≡ header_block h.shape (T / 16)) before now on stand.standing.whole (λ b is. omega (arith, is, seg_is, there)) (let a = stand.standing.ahead in omega (arith, a))
+    logged = logged_next h.shape (λ b. b ≡ header_block h.shape (T / SLOTS)) before now on stand.standing.whole (λ b is. omega (arith, is, seg_is, there)) (let a = stand.standing.ahead in omega (arith, a))
 
     active : (slot_of (segments_of h.shape before) T).state ≡ 1
     active = ap (λ (z : TableSlot). z.state) (slot_for h.shape before x few) ∙ runs.active
 
     -- The patches are those of the header that there is then.
-    patched : (patches : ℕ → ℕ → Header → List Patch) (header : List ℕ) → group ≡ patches at x.slot (header_of header) → header ≡ written_to at group (block_of before at) → on.patches ≡ patches (header_block h.shape (T / 16)) (T % 16) (header_at h.shape now T)
+    patched : (patches : ℕ → ℕ → Header → List Patch) (header : List ℕ) → group ≡ patches at x.slot (header_of header) → header ≡ written_to at group (block_of before at) → on.patches ≡ patches (header_block h.shape (T / SLOTS)) (T % SLOTS) (header_at h.shape now T)
     unfolding on
     patched patches header is copied =
         is
         ∙ (ap (patches at x.slot) (sym (header_now ∙ moved header copied))
         ∙ (ap (λ (i : ℕ). patches at i (header_at h.shape now T)) (sym slot_is)
-        ∙ ap (λ (g : ℕ). patches (header_block h.shape g) (T % 16) (header_at h.shape now T)) (sym seg_is)))
+        ∙ ap (λ (g : ℕ). patches (header_block h.shape g) (T % SLOTS) (header_at h.shape now T)) (sym seg_is)))
 
     pub commits : (n : ℕ) → n ≡ last_scn h.commits + 1 → (header : List ℕ) → group ≡ commit_patches at x.slot (header_of header) → header ≡ written_to at group (block_of before at) → header_of header ≡ moves.committed n x.slot (header_of (block_of before at))
         → CommitMade h xids s x before now
     commits n next header patches copied means =
         let scn = scn_is h xids before stand in
         let number : n ≡ commit_scn h.shape before + 1 = omega (arith, next, scn) in
-        let header_moved : header_at h.shape now T ≡ moves.committed (commit_scn h.shape before + 1) (T % 16) (header_at h.shape before T) = header_now ∙ (moved header copied ∙ (means
+        let header_moved : header_at h.shape now T ≡ moves.committed (commit_scn h.shape before + 1) (T % SLOTS) (header_at h.shape before T) = header_now ∙ (moved header copied ∙ (means
         ∙ (ap (λ (k : ℕ). moves.committed k x.slot (header_of (block_of before at))) number ∙ (ap (λ (i : ℕ). moves.committed (commit_scn h.shape before + 1) i (header_of (block_of before at))) (sym slot_is)
-        ∙ ap (moves.committed (commit_scn h.shape before + 1) (T % 16)) (sym header_is))))) in
+        ∙ ap (moves.committed (commit_scn h.shape before + 1) (T % SLOTS)) (sym header_is))))) in
         let is : IsCommitted h.shape T (commit_scn h.shape before + 1) before now = record { group = on; header = header_moved; patches = patched commit_patches header patches copied } in
         let kept = commit_keeps_machine h xids before now stand s T t_in owns (map not_present (cursors_of h s)) is in
         let state : after_commit h s T (commit_scn h.shape before + 1) (map not_present (cursors_of h s)) ≡ committed h s x.seg x.slot = rw (seg_is, slot_is, scn) refl in
@@ -192,15 +193,15 @@ module _ (h : State) (xids : List Xid) (before now : List (List ℕ)) (s : ℕ) 
       where
         xid_is : xid_by (segments_of h.shape before) T ≡ x
         xid_is =
-            let head : (segments_of h.shape before (T / 16)).header ≡ header_of (block_of before at) = Rattle.law_blocks.proofs.SegmentRead.header_is h.shape before (T / 16) ∙ header_is in
-            let wrap : (slot_in (segments_of h.shape before (T / 16)).header (T % 16)).wrap ≡ x.wrap = ap (λ (k : Header). (slot_in k (T % 16)).wrap) head ∙ (ap (λ (i : ℕ). (slot_in (header_of (block_of before at)) i).wrap) slot_is ∙ runs.wrap) in
+            let head : (segments_of h.shape before (T / SLOTS)).header ≡ header_of (block_of before at) = Rattle.law_blocks.proofs.SegmentRead.header_is h.shape before (T / SLOTS) ∙ header_is in
+            let wrap : (slot_in (segments_of h.shape before (T / SLOTS)).header (T % SLOTS)).wrap ≡ x.wrap = ap (λ (k : Header). (slot_in k (T % SLOTS)).wrap) head ∙ (ap (λ (i : ℕ). (slot_in (header_of (block_of before at)) i).wrap) slot_is ∙ runs.wrap) in
             Rattle.law_blocks.proofs.Seen.one_xid (xid_by (segments_of h.shape before) T) x seg_is slot_is wrap
 
     pub ends : session_own h s ≡ [] → (header : List ℕ) → group ≡ slot_patches at x.slot (header_of header) → header ≡ written_to at group (block_of before at) → header_of header ≡ moves.ended x.slot (header_of (block_of before at))
         → EndMade h xids s x before now
     ends empty header patches copied means =
-        let header_moved : header_at h.shape now T ≡ moves.ended (T % 16) (header_at h.shape before T) = header_now ∙ (moved header copied ∙ (means
-        ∙ (ap (λ (i : ℕ). moves.ended i (header_of (block_of before at))) (sym slot_is) ∙ ap (moves.ended (T % 16)) (sym header_is)))) in
+        let header_moved : header_at h.shape now T ≡ moves.ended (T % SLOTS) (header_at h.shape before T) = header_now ∙ (moved header copied ∙ (means
+        ∙ (ap (λ (i : ℕ). moves.ended i (header_of (block_of before at))) (sym slot_is) ∙ ap (moves.ended (T % SLOTS)) (sym header_is)))) in
         let is : IsEnded h.shape T before now = record { group = on; header = header_moved; patches = patched slot_patches header patches copied } in
         let kept = end_keeps_machine h xids before now stand s T t_in owns empty is in
         let s_in = stand.tell.owner_there s T owns in

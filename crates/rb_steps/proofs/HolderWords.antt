@@ -14,7 +14,7 @@ use Rattle.rb_heap.specs.Homes as heap
 use Rattle.rb_heap.specs.Homes.{empty_cell, home_cell, home_entry, home_of, is_keyed}
 use Rattle.rb_itl.specs.Entries.{free_entry}
 use Rattle.rb_itl.specs.declared.slots.Entry as entries
-use Rattle.rb_itl.specs.declared.slots.TheConstants.{OPEN}
+use Rattle.rb_itl.specs.declared.slots.TheConstants.{ENTRIES, OPEN}
 use Rattle.rb_model.specs.State.{State}
 use Rattle.rb_model.specs.Tests.{holder}
 use Rattle.rb_segment.specs.Header.{Segment}
@@ -87,7 +87,7 @@ module _ (h : State) (xids : List Xid) (blocks : List (List ℕ)) (stand : Block
   cell_is : (c : ℕ) → cell_at Walked c ≡ walk_cell (home_cell Here c)
   cell_is c = lists.get_or-map walk_cell Here.cells c empty_cell
 
-  entry_is : (i : ℕ) → i < 8 → entry_at Walked i ≡ walk_entry h.shape (home_entry Here i)
+  entry_is : (i : ℕ) → i < ENTRIES → entry_at Walked i ≡ walk_entry h.shape (home_entry Here i)
   entry_is i few = get_or-map (walk_entry h.shape) Here.entries i free_entry walk.free_entry (let n = entries_counted (block_of blocks Which) in omega (arith, n, few))
 
   keyed_within : (c : ℕ) → is_keyed key (home_cell Here c) ≡ true → c < length Here.cells
@@ -129,7 +129,7 @@ module _ (h : State) (xids : List Xid) (blocks : List (List ℕ)) (stand : Block
       abbrev E : entries.Entry
       E = home_entry Here i
 
-      by_look : i < 8 → E.kind ≡ OPEN → (l : Look) → Says.look E.xid ≡ l → IsHolder h Says table key (cond (has_ended l) None (Some E.xid))
+      by_look : i < ENTRIES → E.kind ≡ OPEN → (l : Look) → Says.look E.xid ≡ l → IsHolder h Says table key (cond (has_ended l) None (Some E.xid))
       by_look few opened Active look =
           let at = entry_is i few in
           let xid : (entry_at Walked i).xid ≡ E.xid = ap (λ (z : Entry). z.xid) at in
@@ -139,12 +139,12 @@ module _ (h : State) (xids : List Xid) (blocks : List (List ℕ)) (stand : Block
       by_look few opened (At n) look = not_active i lock (λ active. let clash : Active ≡ At n = sym active.1 ∙ (ap Says.look (ap (λ (z : Entry). z.xid) (entry_is i few)) ∙ look) in cc)
       by_look few opened (Before n) look = not_active i lock (λ active. let clash : Active ≡ Before n = sym active.1 ∙ (ap Says.look (ap (λ (z : Entry). z.xid) (entry_is i few)) ∙ look) in cc)
 
-      by_kind : i < 8 → (b : Bool) → (E.kind == OPEN) ≡ b → IsHolder h Says table key (if_runs Says.look (cond b (Some E.xid) None))
+      by_kind : i < ENTRIES → (b : Bool) → (E.kind == OPEN) ≡ b → IsHolder h Says table key (if_runs Says.look (cond b (Some E.xid) None))
       by_kind few true test = by_look few (eqb-true E.kind OPEN test) (Says.look E.xid) refl
       by_kind few false test = not_active i lock (λ active. let opened = open_kind E.kind E.number (sym (ap (λ (z : Entry). z.status) (entry_is i few)) ∙ active.0) in false≢true (sym test ∙ eq-eqb E.kind OPEN opened))
 
       named : IsHolder h Says table key (if_runs Says.look (locker Here (suc i)))
-      named = elim (cases_lt i 8) [
+      named = elim (cases_lt i ENTRIES) [
         | inl few ↦ by_kind few (E.kind == OPEN) refl
         | inr many ↦
             -- a lock names one of the eight, as its entry is Open

@@ -7,7 +7,7 @@ use Rattle.rb_write.specs.Refusals.{HasNoCell, HasNoRow, HasRow}
 use Rattle.rb_base.specs.Blocks.{block_of, home_block, table_blocks}
 use Rattle.rb_base.specs.declared.ids.Xid.{Xid}
 use Rattle.rb_cell.specs.declared.cell.Cell as cells
-use Rattle.rb_cell.specs.declared.cell.TheConstants.{EMPTY, ROW}
+use Rattle.rb_cell.specs.declared.cell.TheConstants.{CELLS, EMPTY, ROW}
 use Rattle.rb_heap.specs.Cleaning.{cleaned_cell, cleaned_home}
 use Rattle.rb_heap.specs.Homes as heap
 use Rattle.rb_heap.specs.Homes.{empty_cell, home_cell, home_of, is_free, is_keyed, IsFirst}
@@ -95,17 +95,17 @@ module _ (h : State) (xids : List Xid) (blocks : List (List ℕ)) (stand : Block
   pub cell_is : (c : ℕ) → cell_at Walked c ≡ walk_cell (home_cell Cleaned c)
   cell_is c = ap (λ (b : Home). cell_at b c) (sym walked_is) ∙ lists.get_or-map walk_cell Cleaned.cells c empty_cell
 
-  cell_sound : (c : ℕ) → c < 16 → IsCellSound h.shape (Which % h.shape.blocks) (home_cell Cleaned c)
+  cell_sound : (c : ℕ) → c < CELLS → IsCellSound h.shape (Which % h.shape.blocks) (home_cell Cleaned c)
   cell_sound = clean.cell_in_order h.shape blocks (past_of h xids) (lives_of h (env_of h.shape blocks)) stand.standing Which which_in
 
-  sixteen : length Cleaned.cells ≡ 16
+  sixteen : length Cleaned.cells ≡ CELLS
   sixteen = length-map (home_of (block_of blocks Which)).cells (cleaned_cell (env_of h.shape blocks).look (home_of (block_of blocks Which))) ∙ cells_counted (block_of blocks Which)
 
   -- the first cell that has the key is the only one
   keyed_once : (c k : ℕ) → is_keyed key (home_cell Cleaned c) ≡ true → is_keyed key (home_cell Cleaned k) ≡ true → c ≡ k
   keyed_once c k one two = (stood.each Which which_in).unique c k key (ap taken (cell_is c) ∙ keyed_taken key (home_cell Cleaned c) one) (ap taken (cell_is k) ∙ keyed_taken key (home_cell Cleaned k) two)
 
-  keyed_first : (c : ℕ) → c < 16 → is_keyed key (home_cell Cleaned c) ≡ true → IsFirst (is_keyed key) Cleaned.cells c
+  keyed_first : (c : ℕ) → c < CELLS → is_keyed key (home_cell Cleaned c) ≡ true → IsFirst (is_keyed key) Cleaned.cells c
   keyed_first c lt is = record {
     within = lt;
     passes = is;
@@ -115,8 +115,8 @@ module _ (h : State) (xids : List Xid) (blocks : List (List ℕ)) (stand : Block
     ];
   }
 
-  keyed_within : (c : ℕ) → is_keyed key (home_cell Cleaned c) ≡ true → c < 16
-  keyed_within c is = elim (cases_lt c 16) [
+  keyed_within : (c : ℕ) → is_keyed key (home_cell Cleaned c) ≡ true → c < CELLS
+  keyed_within c is = elim (cases_lt c CELLS) [
     | inl lt ↦ lt
     | inr le ↦
         let n = sixteen in

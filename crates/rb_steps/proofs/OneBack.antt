@@ -1,5 +1,6 @@
 -- What one call that puts back a change says, in blocks that stand for the machine's state and in any others.
 use Rattle.std.proofs.Common.{◌≡◌, ◌<◌, ◌+◌, ◌++◌, inl, inr, ℕ, Bool, List, [], ◌∷◌, length, ◌∙◌, ap, arith}
+use Rattle.rb_base.specs.declared.sizes.TheConstants.{SLOTS}
 use Rattle.rb_write.specs.Asks.{header_in}
 use Rattle.rb_base.specs.Blocks.{after_group, after_groups}
 use Rattle.rb_base.specs.Groups.{Patch}
@@ -17,7 +18,7 @@ use Rattle.law_crash.specs.Made.{BackMade, GivesOne}
 use Rattle.rb_steps.proofs.StepBack.{BackIs, back_is}
 
 -- in blocks that stand, in which the session has a last change
-module _ {S : Type 0} (s : Ghosts S) (x : Xid) (old new : S) (told : s.tells) (h : State) (xids : List Xid) (who : ℕ) (front : List Change) (c : Change) (stand : BlocksStand h xids (s.blocks old)) (there : x.seg < h.shape.segments) (few : x.slot < 16) (owned : Owned h who x.seg x.slot) (runs : Runs (header_in h.shape (s.blocks old) x.seg) x) (own_is : session_own h who ≡ front ++ c ∷ []) (logged : s.lsn old ≡ logged_of h.shape (s.blocks old)) where
+module _ {S : Type 0} (s : Ghosts S) (x : Xid) (old new : S) (told : s.tells) (h : State) (xids : List Xid) (who : ℕ) (front : List Change) (c : Change) (stand : BlocksStand h xids (s.blocks old)) (there : x.seg < h.shape.segments) (few : x.slot < SLOTS) (owned : Owned h who x.seg x.slot) (runs : Runs (header_in h.shape (s.blocks old) x.seg) x) (own_is : session_own h who ≡ front ++ c ∷ []) (logged : s.lsn old ≡ logged_of h.shape (s.blocks old)) where
   is : BackIs h xids (s.blocks old) who front x
   is = back_is h xids (s.blocks old) stand who x there few owned runs front c own_is
 

@@ -4,6 +4,9 @@ use Rattle.std.proofs.Math.Nat.{le_trans, mod-lt}
 use Rattle.std.proofs.lemmas.Bool.{cases_eq, cond-false, cond-true, eq-eqb, ne_eqb}
 use Rattle.std.proofs.lemmas.List.Sums.{sum_by-cons}
 use Rattle.std.specs.List.{range_with_len, sum_by}
+use Rattle.rb_segment.specs.declared.headers.TheConstants.{SEGMENTS}
+use Rattle.rb_base.specs.declared.sizes.TheConstants.{SLOTS}
+use Rattle.rb_ring.specs.declared.extents.TheConstants.{EXTENTS, EXTENT_RECORDS}
 use Rattle.rb_base.specs.declared.ids.Uba.{Uba}
 use Rattle.rb_base.specs.declared.ids.Xid.{Xid}
 use Rattle.rb_base.specs.declared.shape.Shape.{Shape}
@@ -78,12 +81,12 @@ sum_split f a (suc m) n (suc k) b all at =
     omega (arith, rest, x, y)
 
 -- n sixteens of up to 336
-sum_sixteens : (f : ℕ → ℕ) (n : ℕ) → ((g : ℕ) → g < n → sum_by f (range_with_len (16 * g) 16) ≤ 336) → sum_by f (range_with_len 0 (16 * n)) ≤ 336 * n
+sum_sixteens : (f : ℕ → ℕ) (n : ℕ) → ((g : ℕ) → g < n → sum_by f (range_with_len (SLOTS * g) SLOTS) ≤ (EXTENTS * EXTENT_RECORDS + SLOTS)) → sum_by f (range_with_len 0 (SLOTS * n)) ≤ (EXTENTS * EXTENT_RECORDS + SLOTS) * n
 sum_sixteens f zero few = omega arith
 sum_sixteens f (suc n) few =
     let rest = sum_sixteens f n (λ g lt. few g (omega (arith, lt))) in
     let last = few n (omega arith) in
-    let both = sum_split f 0 (16 * n) 16 (16 * suc n) (16 * n) (omega arith) (omega arith) in
+    let both = sum_split f 0 (SLOTS * n) SLOTS (SLOTS * suc n) (SLOTS * n) (omega arith) (omega arith) in
     omega (arith, rest, last, both)
 
 -- where each of m rows has one in a column, and a column has no more of them than it counts
@@ -125,7 +128,7 @@ owes_few slot n few = elim (cases_eq slot.state 1) [
 
 -- the places of a segment's records
 abbrev Places : List ℕ
-Places = range_with_len 0 320
+Places = range_with_len 0 (EXTENTS * EXTENT_RECORDS)
 
 abbrev at_place : Segment → ℕ → UndoRecord
 at_place s p = get_or s.undo p no_undo
@@ -143,13 +146,13 @@ is_both s i n p = cond ((at_place s p).slot == i) (is_number s n p) 0
 -- a record that there is stands at a place
 record Placed (s : Segment) (r : UndoRecord) : Type 0 where
   place : ℕ
-  few : place < 320
+  few : place < (EXTENTS * EXTENT_RECORDS)
   is : at_place s place ≡ r
 
-placed : (s : Segment) (k : ℕ) (r : UndoRecord) → length s.header.extents ≡ 8 → record_in s k ≡ Some r → Placed s r
+placed : (s : Segment) (k : ℕ) (r : UndoRecord) → length s.header.extents ≡ EXTENTS → record_in s k ≡ Some r → Placed s r
 placed s k r eight is = by (extent_with s.header.extents (turn_of k)) refl (made_of s k r is).2
   where
-    forty : 0 < 40
+    forty : 0 < EXTENT_RECORDS
     forty = omega arith
 
     by : (o : Option ℕ) → extent_with s.header.extents (turn_of k) ≡ o → undo_in s.undo (position_of k) o ≡ Some r → Placed s r
@@ -157,10 +160,10 @@ placed s k r eight is = by (extent_with s.header.extents (turn_of k)) refl (made
     by (Some e) at is =
         let there = found s.header.extents (turn_of k) e at in
         let position = mod-lt (k - 1) forty in
-        let same : Some (at_place s (40 * e + position_of k)) ≡ Some r = is in
-        record { place = 40 * e + position_of k; few = omega (arith, there.0, position, eight); is = cc }
+        let same : Some (at_place s (EXTENT_RECORDS * e + position_of k)) ≡ Some r = is in
+        record { place = EXTENT_RECORDS * e + position_of k; few = omega (arith, there.0, position, eight); is = cc }
 
-module _ (s : Segment) (eight : length s.header.extents ≡ 8) where
+module _ (s : Segment) (eight : length s.header.extents ≡ EXTENTS) where
   -- each live record of a slot, by its number
   counted : (shape : Shape) (x : Xid) (Saved : UndoRecord → Type 0) (uba : Uba) (chs : List Change) → Listed shape s x Saved uba chs → (n : ℕ) → 1 ≤ n → n ≤ length chs → 1 ≤ sum_by (is_both s x.slot n) Places
   counted shape x Saved uba [] listed n first last = absurd (omega (arith, first, last))
@@ -171,7 +174,7 @@ module _ (s : Segment) (eight : length s.header.extents ≡ 8) where
         let number : (at_place s p.place).number ≡ n = ap (λ (u : UndoRecord). u.number) p.is ∙ (listed.4.4 ∙ sym at) in
         let both = cond-true {A = ℕ} ((at_place s p.place).slot == x.slot) (is_number s n p.place) 0 (eq-eqb (at_place s p.place).slot x.slot slot) in
         let one = cond-true {A = ℕ} ((at_place s p.place).number == n) 1 0 (eq-eqb (at_place s p.place).number n number) in
-        let some = sum_some (is_both s x.slot n) 0 320 p.place (omega arith) (let f = p.few in omega (arith, f)) in
+        let some = sum_some (is_both s x.slot n) 0 (EXTENTS * EXTENT_RECORDS) p.place (omega arith) (let f = p.few in omega (arith, f)) in
         omega (arith, both, one, some)
     | inr ne ↦ counted shape x Saved listed.4.0.previous more listed.4.7 n first (omega (arith, last, ne))
   ]
@@ -195,7 +198,7 @@ module _ (s : Segment) (eight : length s.header.extents ≡ 8) where
 
   -- so a slot has no more live records than there are of it
   lives_few : (shape : Shape) (x : Xid) (Saved : UndoRecord → Type 0) (uba : Uba) (chs : List Change) → Listed shape s x Saved uba chs → length chs ≤ sum_by (is_of s x.slot) Places
-  lives_few shape x Saved uba chs listed = rows_few (is_both s x.slot) (is_of s x.slot) (length chs) 320 (counted shape x Saved uba chs listed) (one_number x.slot (length chs))
+  lives_few shape x Saved uba chs listed = rows_few (is_both s x.slot) (is_of s x.slot) (length chs) (EXTENTS * EXTENT_RECORDS) (counted shape x Saved uba chs listed) (one_number x.slot (length chs))
 
   slot_few : (shape : Shape) (commit : ℕ) (wraps : ℕ → ℕ → ℕ) (g i : ℕ) (chs : List Change) → SlotStands shape commit wraps g s i chs → slot_owed (slot_in s.header i) ≤ sum_by (is_of s i) Places + 1
   slot_few shape commit wraps g i chs slot = owes_few (slot_in s.header i) (sum_by (is_of s i) Places) (λ active.
@@ -203,18 +206,18 @@ module _ (s : Segment) (eight : length s.header.extents ≡ 8) where
       subst (λ (z : ℕ). z ≤ sum_by (is_of s i) Places) (sym is.count) (lives_few shape (xid_in g s i) (IsSaved shape commit wraps) (slot_in s.header i).newest_at chs is.listed))
 
   -- a place has one slot
-  one_slot : (g p : ℕ) → sum_by (λ t. is_of s (t % 16) p) (range_with_len (16 * g) 16) ≤ 1
-  one_slot g p = sum_lone (λ t. is_of s (t % 16) p) (16 * g) 16 (λ t. cond_few ((at_place s p).slot == t % 16) 1 (omega arith)) same
+  one_slot : (g p : ℕ) → sum_by (λ t. is_of s (t % SLOTS) p) (range_with_len (SLOTS * g) SLOTS) ≤ 1
+  one_slot g p = sum_lone (λ t. is_of s (t % SLOTS) p) (SLOTS * g) SLOTS (λ t. cond_few ((at_place s p).slot == t % SLOTS) 1 (omega arith)) same
     where
-      same : (t u : ℕ) → 16 * g ≤ t → t < 16 * g + 16 → 16 * g ≤ u → u < 16 * g + 16 → is_of s (t % 16) p ≢ 0 → is_of s (u % 16) p ≢ 0 → t ≡ u
+      same : (t u : ℕ) → SLOTS * g ≤ t → t < SLOTS * g + SLOTS → SLOTS * g ≤ u → u < SLOTS * g + SLOTS → is_of s (t % SLOTS) p ≢ 0 → is_of s (u % SLOTS) p ≢ 0 → t ≡ u
       same t u low high low2 high2 one two =
-          let a = cond_yes (at_place s p).slot (t % 16) 1 one in
-          let b = cond_yes (at_place s p).slot (u % 16) 1 two in
+          let a = cond_yes (at_place s p).slot (t % SLOTS) 1 one in
+          let b = cond_yes (at_place s p).slot (u % SLOTS) 1 two in
           omega (arith, low, high, low2, high2, a, b)
 
   -- the sixteen slots together
-  slots_few : (g : ℕ) → sum_by (λ t. sum_by (is_of s (t % 16)) Places + 1) (range_with_len (16 * g) 16) ≤ 336
-  slots_few g = grid_few (λ t. is_of s (t % 16)) (16 * g) 16 320 (one_slot g)
+  slots_few : (g : ℕ) → sum_by (λ t. sum_by (is_of s (t % SLOTS)) Places + 1) (range_with_len (SLOTS * g) SLOTS) ≤ (EXTENTS * EXTENT_RECORDS + SLOTS)
+  slots_few g = grid_few (λ t. is_of s (t % SLOTS)) (SLOTS * g) SLOTS (EXTENTS * EXTENT_RECORDS) (one_slot g)
 
 module _ (h : State) (xids : List Xid) (blocks : List (List ℕ)) (stand : BlocksStand h xids blocks) where
   abbrev Segs : ℕ → Segment
@@ -223,21 +226,21 @@ module _ (h : State) (xids : List Xid) (blocks : List (List ℕ)) (stand : Block
   stands : StandingAs h.shape (commit_scn h.shape blocks) (logged_of h.shape blocks) Segs (homes_of h.shape blocks) (past_of h xids) (lives_of h (env_of h.shape blocks))
   stands = stand.standing.stands
 
-  eight : (g : ℕ) → g < h.shape.segments → length (Segs g).header.extents ≡ 8
+  eight : (g : ℕ) → g < h.shape.segments → length (Segs g).header.extents ≡ EXTENTS
   eight g g_in = (stands.in_order g g_in).header.extents_counted
 
-  segment_few : (g : ℕ) → g < h.shape.segments → sum_by (λ t. slot_owed (slot_of Segs t)) (range_with_len (16 * g) 16) ≤ 336
+  segment_few : (g : ℕ) → g < h.shape.segments → sum_by (λ t. slot_owed (slot_of Segs t)) (range_with_len (SLOTS * g) SLOTS) ≤ (EXTENTS * EXTENT_RECORDS + SLOTS)
   segment_few g g_in =
-      le_trans (sum_below (λ t. slot_owed (slot_of Segs t)) (λ t. sum_by (is_of (Segs g) (t % 16)) Places + 1) (16 * g) 16 each) (slots_few (Segs g) (eight g g_in) g)
+      le_trans (sum_below (λ t. slot_owed (slot_of Segs t)) (λ t. sum_by (is_of (Segs g) (t % SLOTS)) Places + 1) (SLOTS * g) SLOTS each) (slots_few (Segs g) (eight g g_in) g)
     where
-      each : (t : ℕ) → 16 * g ≤ t → t < 16 * g + 16 → slot_owed (slot_of Segs t) ≤ sum_by (is_of (Segs g) (t % 16)) Places + 1
+      each : (t : ℕ) → SLOTS * g ≤ t → t < SLOTS * g + SLOTS → slot_owed (slot_of Segs t) ≤ sum_by (is_of (Segs g) (t % SLOTS)) Places + 1
       each t low high =
-          let at : t / 16 ≡ g = omega (arith, low, high) in
-          let t_in : t < 16 * h.shape.segments = omega (arith, high, g_in) in
-          subst (λ (z : ℕ). slot_owed (slot_of Segs t) ≤ sum_by (is_of (Segs z) (t % 16)) Places + 1) at
-          (slot_few (Segs (t / 16)) (eight (t / 16) (omega (arith, at, g_in))) h.shape (commit_scn h.shape blocks) (wraps_of Segs) (t / 16) (t % 16) (own (lives_of h (env_of h.shape blocks)) t) (stands.slots t t_in))
+          let at : t / SLOTS ≡ g = omega (arith, low, high) in
+          let t_in : t < SLOTS * h.shape.segments = omega (arith, high, g_in) in
+          subst (λ (z : ℕ). slot_owed (slot_of Segs t) ≤ sum_by (is_of (Segs z) (t % SLOTS)) Places + 1) at
+          (slot_few (Segs (t / SLOTS)) (eight (t / SLOTS) (omega (arith, at, g_in))) h.shape (commit_scn h.shape blocks) (wraps_of Segs) (t / SLOTS) (t % SLOTS) (own (lives_of h (env_of h.shape blocks)) t) (stands.slots t t_in))
 
-  owed_few : owed h.shape Segs ≤ 336 * h.shape.segments
+  owed_few : owed h.shape Segs ≤ (EXTENTS * EXTENT_RECORDS + SLOTS) * h.shape.segments
   owed_few = sum_sixteens (λ t. slot_owed (slot_of Segs t)) h.shape.segments segment_few
 
 -- how many groups put back what is under way after a write of a transaction that has its slot, or takes one
@@ -248,7 +251,7 @@ owed_after shape blocks own = owed_in shape blocks + (if is_some own then 1 else
 pub after_few : (h : State) (xids : List Xid) (blocks : List (List ℕ)) (own : Option Xid) → BlocksStand h xids blocks → owed_after h.shape blocks own ≤ 2 ^ 13
 after_few h xids blocks own stand = by (is_some own)
   where
-    few : owed_in h.shape blocks ≤ 336 * 16
+    few : owed_in h.shape blocks ≤ (EXTENTS * EXTENT_RECORDS + SLOTS) * SEGMENTS
     few = let o = owed_same h blocks in let all = owed_few h xids blocks stand in let segments = stand.tell.in_range.few_segments.1 in omega (arith, o, all, segments)
 
     by : (b : Bool) → owed_in h.shape blocks + (if b then 1 else 2) ≤ 2 ^ 13

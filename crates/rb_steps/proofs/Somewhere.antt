@@ -3,6 +3,7 @@
 use Rattle.std.proofs.Common.{◌≡◌, ◌≢◌, ◌⊎◌, inl, inr, ◌<◌, ◌≤◌, ◌+◌, ◌-◌, ◌*◌, ◌/◌, ◌%◌, ℕ, zero, suc, List, length, Option, Some, None, refl, sym, ◌∙◌, ap, arith}
 use Rattle.std.proofs.Math.Nat.{div-add-mod}
 use Rattle.std.proofs.lemmas.Bool.{cases_eq, cases_lt}
+use Rattle.rb_base.specs.declared.sizes.TheConstants.{SLOTS}
 use Rattle.rb_base.specs.declared.ids.Xid.{Xid}
 use Rattle.rb_model.specs.Book.{Book, IsBegun, Owner, book_at, book_slot, owners, slot_owner}
 use Rattle.rb_model.specs.Calls.{HasNoSlot, WritesIn}
@@ -113,8 +114,8 @@ module _ (h : State) (xids : List Xid) (blocks : List (List ℕ)) (s : ℕ) (own
       let some = about.stand.tell.in_range.few_segments.0 in
       let l = first_least (λ g. owners (book_at h.books g)) (length h.books - 1) in
       let within : l.0 < length h.books = (let lt = l.1 in omega (arith, lt, counted, some)) in
-      elim (first_free (book_at h.books l.0) 16) [
-        | inl all ↦ absurd (all_owned h xids blocks s own about there few none l.0 (λ i lt. some_session h xids blocks s own about (16 * l.0 + i) (all i lt).0 (slot_is h xids blocks s own about l.0 i lt ∙ (all i lt).1)))
+      elim (first_free (book_at h.books l.0) SLOTS) [
+        | inl all ↦ absurd (all_owned h xids blocks s own about there few none l.0 (λ i lt. some_session h xids blocks s own about (SLOTS * l.0 + i) (all i lt).0 (slot_is h xids blocks s own about l.0 i lt ∙ (all i lt).1)))
         | inr found ↦ (
           l.0,
           found.0,
@@ -133,8 +134,8 @@ module _ (h : State) (xids : List Xid) (blocks : List (List ℕ)) (s : ℕ) (own
       by : (o : Option Xid) → own ≡ o → (g : ℕ) × (i : ℕ) × WritesIn h s g i
       by (Some x) is =
           let f : (t : ℕ) × Owns h s t × (x ≡ (env_of h.shape blocks).xid t) = about.id.owned x is in
-          let at : 16 * (f.0 / 16) + f.0 % 16 ≡ f.0 = (let a = div-add-mod f.0 16 in omega (arith, a)) in
-          (f.0 / 16, f.0 % 16, inl (omega arith, f.1.owner, ap (owner_at h) at ∙ f.1.at, f.1.session))
+          let at : SLOTS * (f.0 / SLOTS) + f.0 % SLOTS ≡ f.0 = (let a = div-add-mod f.0 SLOTS in omega (arith, a)) in
+          (f.0 / SLOTS, f.0 % SLOTS, inl (omega arith, f.1.owner, ap (owner_at h) at ∙ f.1.at, f.1.session))
       by None is =
           let b = begins is in
           let none : HasNoSlot h s = λ t o at same. let some = about.id.owns t (record { owner = o; at = at; session = same }) in let never : None ≡ Some ((env_of h.shape blocks).xid t) = sym is ∙ some in cc in

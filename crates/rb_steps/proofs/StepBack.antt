@@ -2,12 +2,15 @@
 -- then stand with that change less.
 use Rattle.std.proofs.Common.{◌≡◌, inl, inr, ◌<◌, ◌≤◌, ◌+◌, ◌*◌, ◌/◌, ◌%◌, ◌++◌, ℕ, List, [], ◌∷◌, length, Some, refl, sym, ◌∙◌, ap, subst, arith}
 use Rattle.std.proofs.Math.Nat.{div-add-mod}
+use Rattle.rb_undoblock.specs.declared.record.TheConstants.{UNDO_RECORDS}
+use Rattle.rb_itl.specs.declared.slots.TheConstants.{ENTRIES}
+use Rattle.rb_cell.specs.declared.cell.TheConstants.{CELLS}
 use Rattle.rb_write.specs.Asks.{header_in}
 use Rattle.rb_base.specs.Blocks.{after_group, block_of, shape_blocks, table_blocks}
 use Rattle.rb_base.specs.Groups.{IsGroup}
 use Rattle.rb_base.specs.declared.ids.Uba.{Uba}
 use Rattle.rb_base.specs.declared.ids.Xid.{Xid}
-use Rattle.rb_base.specs.declared.sizes.TheConstants.{ACTIVE}
+use Rattle.rb_base.specs.declared.sizes.TheConstants.{ACTIVE, SLOTS}
 use Rattle.law_crash.proofs.Owners.{owns_of}
 use Rattle.rb_model.specs.Calls.{Owned}
 use Rattle.rb_model.specs.Change as model
@@ -40,17 +43,17 @@ use Rattle.law_home.specs.Walk.{Change, own}
 -- The record of a session's last change c, whose slot is t.
 record Newest (h : State) (blocks : List (List ℕ)) (t wrap : ℕ) (c : model.Change) : Type 0 where
   u : UndoRecord
-  there : record_in (segments_of h.shape blocks (t / 16)) c.place.index ≡ Some u
+  there : record_in (segments_of h.shape blocks (t / SLOTS)) c.place.index ≡ Some u
   can : CanBack h.shape blocks (xid_of t wrap)
   read : newest_record h.shape blocks (xid_of t wrap) ≡ u
   reads : last_record h.shape blocks t ≡ u
 
-module _ (h : State) (xids : List Xid) (before : List (List ℕ)) (stand : BlocksStand h xids before) (s t wrap : ℕ) (t_in : t < 16 * h.shape.segments) (owns : Owns h s t) (front : List model.Change) (c : model.Change) (runs : Runs (header_in h.shape before (t / 16)) (xid_of t wrap)) (own_is : session_own h s ≡ front ++ c ∷ []) where
+module _ (h : State) (xids : List Xid) (before : List (List ℕ)) (stand : BlocksStand h xids before) (s t wrap : ℕ) (t_in : t < SLOTS * h.shape.segments) (owns : Owns h s t) (front : List model.Change) (c : model.Change) (runs : Runs (header_in h.shape before (t / SLOTS)) (xid_of t wrap)) (own_is : session_own h s ≡ front ++ c ∷ []) where
   abbrev Segs : ℕ → Segment
   Segs = segments_of h.shape before
 
   abbrev S : Segment
-  S = Segs (t / 16)
+  S = Segs (t / SLOTS)
 
   abbrev X : Xid
   X = xid_of t wrap
@@ -74,13 +77,13 @@ module _ (h : State) (xids : List Xid) (before : List (List ℕ)) (stand : Block
   newest =
       let Saved : UndoRecord → Type 0 = IsSaved h.shape (commit_scn h.shape before) (wraps_of Segs) in
       let at = (slot_of Segs t).newest_at in
-      let listed : Listed h.shape S (xid_in (t / 16) S (t % 16)) Saved at (Last ∷ More) =
-      subst (λ (z : List Change). Listed h.shape S (xid_in (t / 16) S (t % 16)) Saved at z) has ((stand.standing.stands.slots t t_in).active active).listed in
+      let listed : Listed h.shape S (xid_in (t / SLOTS) S (t % SLOTS)) Saved at (Last ∷ More) =
+      subst (λ (z : List Change). Listed h.shape S (xid_in (t / SLOTS) S (t % SLOTS)) Saved at z) has ((stand.standing.stands.slots t t_in).active active).listed in
       let u = listed.4.0 in
       let same : at ≡ newest_of h.shape before X = ap (λ (z : TableSlot). z.newest_at) (slot_is h.shape before t wrap) in
-      let reads : undo_at (block_of before at.block) at.rec ≡ u = listed_reads h.shape before (xid_in (t / 16) S (t % 16)) Saved at Last More u listed listed.4.1 in
+      let reads : undo_at (block_of before at.block) at.rec ≡ u = listed_reads h.shape before (xid_in (t / SLOTS) S (t % SLOTS)) Saved at Last More u listed listed.4.1 in
       let read : newest_record h.shape before X ≡ u = ap (λ (z : Uba). undo_at (block_of before z.block) z.rec) (sym same) ∙ reads in
-      let g_in = div-add-mod t 16 in
+      let g_in = div-add-mod t SLOTS in
       record {
         u = u;
         there = listed.4.1;
@@ -89,10 +92,10 @@ module _ (h : State) (xids : List Xid) (before : List (List ℕ)) (stand : Block
           live = let count = ((stand.standing.stands.slots t t_in).active active).count in let l = ap length has in let at = ap (λ (z : TableSlot). z.live) (slot_is h.shape before t wrap) in omega (arith, count, l, at);
           some = subst (λ (z : Uba). 1 ≤ z.ord) same listed.0;
           block = subst (λ (z : Uba). z.block < shape_blocks h.shape) same (omega (arith, listed.1.within, g_in, t_in));
-          place = subst (λ (z : Uba). z.rec < 10) same listed.1.rec;
+          place = subst (λ (z : Uba). z.rec < UNDO_RECORDS) same listed.1.rec;
           home = subst (λ (z : UndoRecord). z.home < table_blocks h.shape) (sym read) listed.4.6.there;
-          entry = subst (λ (z : UndoRecord). z.entry < 8) (sym read) listed.4.6.entry;
-          cell = subst (λ (z : UndoRecord). z.cell < 16) (sym read) listed.4.6.cell;
+          entry = subst (λ (z : UndoRecord). z.entry < ENTRIES) (sym read) listed.4.6.entry;
+          cell = subst (λ (z : UndoRecord). z.cell < CELLS) (sym read) listed.4.6.cell;
         };
         read = read;
         reads = reads;
@@ -137,12 +140,12 @@ pub record BackIs (h : State) (xids : List Xid) (before : List (List ℕ)) (s : 
   pub after : (now : List (List ℕ)) → IsGroup (back_group h.shape before x) → now ≡ after_group (logged_of h.shape before + 1) (back_group h.shape before x) before → TakesBack h.shape x (newest_record h.shape before x) before now
       → BackMade h xids s front before now
 
-pub back_is : (h : State) (xids : List Xid) (before : List (List ℕ)) → BlocksStand h xids before → (s : ℕ) (x : Xid) → x.seg < h.shape.segments → x.slot < 16 → Owned h s x.seg x.slot → Runs (header_in h.shape before x.seg) x → (front : List model.Change) (c : model.Change) → session_own h s ≡ front ++ c ∷ [] → BackIs h xids before s front x
+pub back_is : (h : State) (xids : List Xid) (before : List (List ℕ)) → BlocksStand h xids before → (s : ℕ) (x : Xid) → x.seg < h.shape.segments → x.slot < SLOTS → Owned h s x.seg x.slot → Runs (header_in h.shape before x.seg) x → (front : List model.Change) (c : model.Change) → session_own h s ≡ front ++ c ∷ [] → BackIs h xids before s front x
 back_is h xids before stand s x there few owned runs front c own_is =
-    let t = 16 * x.seg + x.slot in
-    let t_in : t < 16 * h.shape.segments = omega (arith, there, few) in
+    let t = SLOTS * x.seg + x.slot in
+    let t_in : t < SLOTS * h.shape.segments = omega (arith, there, few) in
     let owns : Owns h s t = owns_of h s x.seg x.slot owned in
-    let running : Runs (header_in h.shape before (t / 16)) (xid_of t x.wrap) = subst (λ (z : Xid). Runs (header_in h.shape before z.seg) z) (xid_is x few) runs in
+    let running : Runs (header_in h.shape before (t / SLOTS)) (xid_of t x.wrap) = subst (λ (z : Xid). Runs (header_in h.shape before z.seg) z) (xid_is x few) runs in
     subst (BackIs h xids before s front) (sym (xid_is x few)) (record {
       can = can_at h xids before stand s t x.wrap t_in owns front c running own_is;
       after = λ now valid made takes. record {

@@ -3,6 +3,7 @@ use Rattle.std.proofs.Common.{◌≡◌, ◌≢◌, ◌⊎◌, inl, inr, ◌<◌
 use Rattle.std.proofs.Math.Nat.{div-add-mod}
 use Rattle.std.proofs.lemmas.Bool.{cases_eq}
 use Rattle.std.proofs.lemmas.List.{get_or-set_other, get_or-set_same, length-map}
+use Rattle.rb_base.specs.declared.sizes.TheConstants.{SLOTS}
 use Rattle.rb_base.specs.Blocks.{block_of, header_block, table_blocks}
 use Rattle.rb_base.specs.declared.ids.Uba.{Uba}
 use Rattle.rb_base.specs.declared.ids.Xid.{Xid}
@@ -13,7 +14,7 @@ use Rattle.law_crash.proofs.Tells.{IsTold, cleaned_told, tells_by}
 use Rattle.law_crash.specs.Made.{TellsLooks, entry_in}
 use Rattle.rb_itl.specs.Entries.{free_entry}
 use Rattle.rb_itl.specs.declared.slots.Entry.{Entry}
-use Rattle.rb_itl.specs.declared.slots.TheConstants.{OPEN}
+use Rattle.rb_itl.specs.declared.slots.TheConstants.{ENTRIES, OPEN}
 use Rattle.rb_model.specs.Change.{Kind}
 use Rattle.rb_model.specs.State.{State}
 use Rattle.rb_segment.specs.Header.{SegmentInOrder}
@@ -25,12 +26,12 @@ use Rattle.law_blocks.proofs.Group.{block_stays}
 use Rattle.law_blocks.proofs.SegmentRecorded as segment
 use Rattle.rb_undoblock.specs.declared.record.UndoRecord.{UndoRecord}
 
-module _ (h : State) (xids : List Xid) (before now : List (List ℕ)) (t : ℕ) (adds : Bool) (kind : Kind) (address : Uba) (u : UndoRecord) (stand : BlocksStand h xids before) (t_in : t < 16 * h.shape.segments) (is : IsWritten h.shape t adds kind address u before now) where
+module _ (h : State) (xids : List Xid) (before now : List (List ℕ)) (t : ℕ) (adds : Bool) (kind : Kind) (address : Uba) (u : UndoRecord) (stand : BlocksStand h xids before) (t_in : t < SLOTS * h.shape.segments) (is : IsWritten h.shape t adds kind address u before now) where
   abbrev Is : ℕ → Type 0
-  Is x = (x ≡ u.home) ⊎ (x ≡ header_block h.shape (t / 16)) ⊎ (x ≡ address.block)
+  Is x = (x ≡ u.home) ⊎ (x ≡ header_block h.shape (t / SLOTS)) ⊎ (x ≡ address.block)
 
-  order : SegmentInOrder (commit_scn h.shape before) (logged_of h.shape before) (segments_of h.shape before (t / 16))
-  order = stand.standing.stands.in_order (t / 16) (let a = div-add-mod t 16 in omega (arith, a, t_in))
+  order : SegmentInOrder (commit_scn h.shape before) (logged_of h.shape before) (segments_of h.shape before (t / SLOTS))
+  order = stand.standing.stands.in_order (t / SLOTS) (let a = div-add-mod t SLOTS in omega (arith, a, t_in))
 
   -- neither the header nor the record is in a block of rows
   row_stays : (b : ℕ) → b < table_blocks h.shape → b ≢ u.home → block_of now b ≡ block_of before b
@@ -44,7 +45,7 @@ module _ (h : State) (xids : List Xid) (before now : List (List ℕ)) (t : ℕ) 
   abbrev Cleaned : Home
   Cleaned = cleaned_home (env_of h.shape before).look (home_of (block_of before u.home))
 
-  eight : length Cleaned.entries ≡ 8
+  eight : length Cleaned.entries ≡ ENTRIES
   eight = length-map (home_of (block_of before u.home)).entries (cleaned_entry (env_of h.shape before).look) ∙ entries_counted (block_of before u.home)
 
   -- the entry that the write takes, and the others of its home

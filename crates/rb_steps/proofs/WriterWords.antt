@@ -4,6 +4,7 @@ use Rattle.std.proofs.Common.{◌≡◌, inl, inr, ◌<◌, ◌≤◌, ℕ, suc,
 use Rattle.std.proofs.Math.ListN as lists
 use Rattle.std.proofs.lemmas.Bool.{cases_Bool, cases_lt}
 use Rattle.std.proofs.lemmas.List.{get_or-map, length-map}
+use Rattle.rb_itl.specs.declared.slots.TheConstants.{ENTRIES}
 use Rattle.rb_write.specs.Asks.{IsWriterOf}
 use Rattle.rb_base.specs.Blocks.{block_of, home_block}
 use Rattle.rb_base.specs.declared.ids.Xid.{Xid}
@@ -64,10 +65,10 @@ module _ (h : State) (xids : List Xid) (blocks : List (List ℕ)) (s : ℕ) (own
   abbrev Stands : Stood h xids Segs (clean_home h blocks)
   Stands = home.stood h xids blocks about.stand table key first last
 
-  eight : length Cleaned.entries ≡ 8
+  eight : length Cleaned.entries ≡ ENTRIES
   eight = length-map (home_of (block_of blocks Which)).entries (cleaned_entry (env_of h.shape blocks).look) ∙ entries_counted (block_of blocks Which)
 
-  entry_is : (i : ℕ) → i < 8 → entry_at Walked i ≡ walk_entry h.shape (home_entry Cleaned i)
+  entry_is : (i : ℕ) → i < ENTRIES → entry_at Walked i ≡ walk_entry h.shape (home_entry Cleaned i)
   entry_is i few =
       ap (λ (b : walk.Home). entry_at b i) (sym (home.walked_is h xids blocks about.stand table key first last))
       ∙ get_or-map (walk_entry h.shape) Cleaned.entries i free_entry walk.free_entry (let n = eight in omega (arith, n, few))
@@ -76,7 +77,7 @@ module _ (h : State) (xids : List Xid) (blocks : List (List ℕ)) (s : ℕ) (own
   pub slots_full : HasNoChoice (home_entry Cleaned) x → full_slots h s table key ≡ true
   slots_full none = slots.full_slots_when h xids Segs (clean_home h blocks) Stands s table key first last of_other
     where
-      of_other : (i : ℕ) → i < 8 → IsOfOther h xids Segs (clean_home h blocks) Stands s table key first last i
+      of_other : (i : ℕ) → i < ENTRIES → IsOfOther h xids Segs (clean_home h blocks) Stands s table key first last i
       of_other i few =
           let e = home_entry Cleaned i in
           let opened : (entry_at Walked i).status ≡ Open = ap (λ (z : Entry). z.status) (entry_is i few) ∙ status_open e.kind e.number (none i few).0 in
@@ -91,7 +92,7 @@ module _ (h : State) (xids : List Xid) (blocks : List (List ℕ)) (s : ℕ) (own
     | inr not_is ↦ not_is
   ]
     where
-      none : ((i : ℕ) → i < 8 → IsOfOther h xids Segs (clean_home h blocks) Stands s table key first last i) → HasNoChoice (home_entry Cleaned) x
+      none : ((i : ℕ) → i < ENTRIES → IsOfOther h xids Segs (clean_home h blocks) Stands s table key first last i) → HasNoChoice (home_entry Cleaned) x
       none all j few =
           let e = home_entry Cleaned j in
           let of = all j few in
@@ -109,8 +110,8 @@ module _ (h : State) (xids : List Xid) (blocks : List (List ℕ)) (s : ℕ) (own
           )
 
   -- an entry that is Open is one of the eight
-  open_few : (i : ℕ) → (entry_at Walked i).status ≡ Open → i < 8
-  open_few i is = elim (cases_lt i 8) [
+  open_few : (i : ℕ) → (entry_at Walked i).status ≡ Open → i < ENTRIES
+  open_few i is = elim (cases_lt i ENTRIES) [
     | inl few ↦ few
     | inr many ↦
         let n = length-map Cleaned.entries (walk_entry h.shape) in

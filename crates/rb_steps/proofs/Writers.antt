@@ -3,6 +3,7 @@ use Rattle.std.proofs.Common.{◌≡◌, ◌⊎◌, inl, inr, ◌<◌, ◌+◌, 
 use Rattle.std.proofs.Math.Nat.{div-add-mod, mod-lt}
 use Rattle.std.proofs.lemmas.Bool.{and_from, and_parts, cases_Bool, eq-eqb, le-leb, leb-true, ne_eqb}
 use Rattle.std.proofs.lemmas.List.{get_or-set_same}
+use Rattle.rb_base.specs.declared.sizes.TheConstants.{SLOTS}
 use Rattle.rb_write.specs.Asks.{IsFewest, IsWriterOf, header_in}
 use Rattle.rb_base.specs.declared.ids.Xid.{Xid}
 use Rattle.rb_model.specs.Book.{Owner, book_at, slot_owner}
@@ -40,7 +41,7 @@ module _ (h : State) (xids : List Xid) (blocks : List (List ℕ)) (s : ℕ) (own
 
   -- its table slot, the slots of all segments counted in order
   abbrev pub At : ℕ
-  At = 16 * x.seg + x.slot
+  At = SLOTS * x.seg + x.slot
 
   stood : Stood h xids Segs (homes_of h.shape blocks)
   stood = stood_of h xids blocks about.stand
@@ -51,7 +52,7 @@ module _ (h : State) (xids : List Xid) (blocks : List (List ℕ)) (s : ℕ) (own
     pub owns : Owns h s At
     pub id : x ≡ (env_of h.shape blocks).xid At
     pub within : x.seg < h.shape.segments
-    pub few : x.slot < 16
+    pub few : x.slot < SLOTS
     pub active : (slot_in Head x.slot).state ≡ 1
     pub same : ready ≡ Head
 
@@ -69,15 +70,15 @@ module _ (h : State) (xids : List Xid) (blocks : List (List ℕ)) (s : ℕ) (own
       let f : (t : ℕ) × Owns h s t × (y ≡ (env_of h.shape blocks).xid t) = about.id.owned y is in
       let w : (x ≡ y) × (ready ≡ header_in h.shape blocks y.seg) = writer.has y is in
       let id : x ≡ (env_of h.shape blocks).xid f.0 = w.0 ∙ f.2 in
-      let seg : x.seg ≡ f.0 / 16 = ap (λ (z : Xid). z.seg) id in
-      let slot : x.slot ≡ f.0 % 16 = ap (λ (z : Xid). z.slot) id in
-      let a = div-add-mod f.0 16 in
+      let seg : x.seg ≡ f.0 / SLOTS = ap (λ (z : Xid). z.seg) id in
+      let slot : x.slot ≡ f.0 % SLOTS = ap (λ (z : Xid). z.slot) id in
+      let a = div-add-mod f.0 SLOTS in
       let m = mod-lt f.0 sixteen in
       let at : f.0 ≡ At = omega (arith, a, seg, slot) in
       let t_in = owner_within h xids Segs (homes_of h.shape blocks) stood f.0 f.1.owner f.1.at in
       let g_in : x.seg < h.shape.segments = omega (arith, a, seg, t_in) in
       let owned : owner_at h At ≡ Some f.1.owner = ap (owner_at h) (sym at) ∙ f.1.at in
-      let few : x.slot < 16 = omega (arith, m, slot) in
+      let few : x.slot < SLOTS = omega (arith, m, slot) in
       let here : slot_owner (book_at h.books x.seg) x.slot ≡ Some f.1.owner = slot_is x.seg x.slot few ∙ owned in
       record {
         own_is = is ∙ ap (λ (z : Xid). Some z) (sym w.0);
@@ -89,14 +90,14 @@ module _ (h : State) (xids : List Xid) (blocks : List (List ℕ)) (s : ℕ) (own
         same = w.1 ∙ (ap (λ (z : Xid). header_in h.shape blocks z.seg) (sym w.0) ∙ sym (header_is h.shape blocks x.seg));
       }
     where
-      sixteen : 0 < 16
+      sixteen : 0 < SLOTS
       sixteen = omega arith
 
-      slot_is : (g i : ℕ) → i < 16 → slot_owner (book_at h.books g) i ≡ owner_at h (16 * g + i)
+      slot_is : (g i : ℕ) → i < SLOTS → slot_owner (book_at h.books g) i ≡ owner_at h (SLOTS * g + i)
       slot_is g i few =
-          let seg : g ≡ (16 * g + i) / 16 = omega (arith, few) in
-          let slot : i ≡ (16 * g + i) % 16 = omega (arith, few) in
-          ap (λ z. slot_owner (book_at h.books z) i) seg ∙ ap (slot_owner (book_at h.books ((16 * g + i) / 16))) slot
+          let seg : g ≡ (SLOTS * g + i) / SLOTS = omega (arith, few) in
+          let slot : i ≡ (SLOTS * g + i) % SLOTS = omega (arith, few) in
+          ap (λ z. slot_owner (book_at h.books z) i) seg ∙ ap (slot_owner (book_at h.books ((SLOTS * g + i) / SLOTS))) slot
 
   takes_it : own ≡ None → TakesIt
   takes_it is =
@@ -121,17 +122,17 @@ module _ (h : State) (xids : List Xid) (blocks : List (List ℕ)) (s : ℕ) (own
   pub within : x.seg < h.shape.segments
   within = elim way [ inl has ↦ has.within | inr takes ↦ takes.within ]
 
-  pub few : x.slot < 16
+  pub few : x.slot < SLOTS
   few = elim way [ inl has ↦ has.few | inr takes ↦ takes.may.within ]
 
-  pub at_seg : At / 16 ≡ x.seg
+  pub at_seg : At / SLOTS ≡ x.seg
   at_seg = let f = few in omega (arith, f)
 
-  pub at_slot : At % 16 ≡ x.slot
+  pub at_slot : At % SLOTS ≡ x.slot
   at_slot = let f = few in omega (arith, f)
 
   slot_at : (slot_in Head x.slot).state ≡ (slot_of Segs At).state
-  slot_at = ap (λ z. (slot_in (Segs z).header x.slot).state) (sym at_seg) ∙ ap (λ z. (slot_in (Segs (At / 16)).header z).state) (sym at_slot)
+  slot_at = ap (λ z. (slot_in (Segs z).header x.slot).state) (sym at_seg) ∙ ap (λ z. (slot_in (Segs (At / SLOTS)).header z).state) (sym at_slot)
 
   pub is_ready : IsHeaderReady Head x.slot ready
   is_ready = elim way [ inl has ↦ inl (has.active, has.same) | inr takes ↦ inr (takes.may, takes.same) ]

@@ -1,5 +1,6 @@
 -- No number of blocks that stand is near the end of its type.
 use Rattle.std.proofs.Common.{◌≡◌, ◌<◌, ◌≤◌, ◌+◌, ◌^◌, ℕ, List, sym, subst, arith}
+use Rattle.rb_itl.specs.declared.slots.TheConstants.{ENTRIES}
 use Rattle.rb_write.specs.Asks.{AreYoung, IsEntryYoung}
 use Rattle.rb_base.specs.Blocks.{block_of, table_blocks}
 use Rattle.rb_base.specs.declared.ids.Xid.{Xid}
@@ -48,7 +49,7 @@ module _ (h : State) (xids : List Xid) (blocks : List (List ℕ)) (stand : Block
       order : SegmentInOrder Commit Logged (Segs g)
       order = stand.standing.stands.in_order g g_in
 
-  entry_young : (b i : ℕ) → b < table_blocks h.shape → i < 8 → (entry_at (block_of blocks b) i).kind ≡ 1 → IsEntryYoung h.shape (entry_at (block_of blocks b) i)
+  entry_young : (b i : ℕ) → b < table_blocks h.shape → i < ENTRIES → (entry_at (block_of blocks b) i).kind ≡ 1 → IsEntryYoung h.shape (entry_at (block_of blocks b) i)
   entry_young b i b_in few opened =
       let taken : IsTaken h.shape Commit (wraps_of Segs) (entry_at (block_of blocks b) i) = ((stand.standing.homes_sound b b_in).entries i few).taken (λ free. omega (arith, free, opened)) in
       record { seg = taken.segment; slot = taken.slot; chain = let c = taken.chain.1 in omega (arith, c) }

@@ -1,6 +1,7 @@
 -- What a patch leaves of its block's bytes. Slots, cells and entries are all read from such bytes, so it stands below the
 -- crates of each.
 use Rattle.std.proofs.Common.{◌≡◌, ℕ, ◌+◌, ◌^◌, ◌<◌, ◌≤◌, List, length, drop, refl, arith, ap, sym, ◌∙◌, inr, slice_index}
+use Rattle.rb_base.specs.declared.sizes.TheConstants.{UNIT}
 use Rattle.byteorder.specs.Endian.{big_bytes}
 use Rattle.byteorder.specs.Numbers.{big_number-reads_back}
 use Rattle.rb_base.specs.Blocks.{patched}
@@ -10,10 +11,10 @@ use Rattle.rb_base.proofs.Fronts.{number_of_part, byte_of_part}
 use Rattle.rb_base.proofs.Overwriting.{length-overwritten, part_apart}
 
 -- what is behind the log number in front
-behind_number : (block : List ℕ) (number at count : ℕ) → length block ≡ 2048 → 8 ≤ at → part (with_number block 0 8 number) at count ≡ part block at count
+behind_number : (block : List ℕ) (number at count : ℕ) → length block ≡ UNIT → 8 ≤ at → part (with_number block 0 8 number) at count ≡ part block at count
 behind_number block number at count long behind = part_apart block 0 (big_bytes 8 number) at count 8 (omega (arith, long)) refl (inr behind)
 
-module _ (block : List ℕ) (number size : ℕ) (p : Patch) (long : length block ≡ 2048) (within : p.at + size ≤ 2048) (size_is : length p.bytes ≡ size) where
+module _ (block : List ℕ) (number size : ℕ) (p : Patch) (long : length block ≡ UNIT) (within : p.at + size ≤ UNIT) (size_is : length p.bytes ≡ size) where
   numbered : (at count : ℕ) → 8 ≤ at → part (patched number p block) at count ≡ part (overwritten block p.at p.bytes) at count
   numbered at count behind = behind_number (overwritten block p.at p.bytes) number at count (length-overwritten block p.at p.bytes (omega (arith, long, size_is, within)) ∙ long) behind
 

@@ -1,6 +1,7 @@
 -- A table slot that was written over a header's bytes.
 use Rattle.std.proofs.Common.{◌≡◌, ℕ, ◌+◌, ◌-◌, ◌<◌, ◌≤◌, List, take, drop, refl, arith, ap, sym, ◌∙◌, inl, inr, slice_index}
 use Rattle.std.proofs.lemmas.List.{drop-drop, drop-take, get_or-take, get_or-drop}
+use Rattle.rb_base.specs.declared.sizes.TheConstants.{BLOCK_HEAD, SLOT_BYTES}
 use Rattle.byteorder.specs.Numbers.{big_number-reads_back, big_from-take}
 use Rattle.byteorder.specs.Endian.{big_number}
 use Rattle.rb_base.specs.Addresses.{slot_place, uba_at}
@@ -13,13 +14,13 @@ use Rattle.rb_txntable.specs.Slots.{slot_bytes, slot_at, with_slot, IsTableSlot,
 use Rattle.rb_txntable.specs.Slots.{SlotReadsBack, SlotReadsOwn, SlotsKept, KeepsOutsideSlot, KeepsNumbersOutside, KeepsBytesOutside, SlotLengthKept}
 
 pub kept_outside : KeepsOutsideSlot
-kept_outside header i at count s long lt side = part_apart header (slot_place i) (slot_bytes s) at count 64 (omega (arith, long)) refl side
+kept_outside header i at count s long lt side = part_apart header (slot_place i) (slot_bytes s) at count SLOT_BYTES (omega (arith, long)) refl side
 
 pub numbers_kept : KeepsNumbersOutside
-numbers_kept header i at count s long lt side = number_apart header (slot_place i) (slot_bytes s) 64 (omega (arith, long)) refl at count side
+numbers_kept header i at count s long lt side = number_apart header (slot_place i) (slot_bytes s) SLOT_BYTES (omega (arith, long)) refl at count side
 
 pub bytes_kept : KeepsBytesOutside
-bytes_kept header i at s long lt side = byte_apart header (slot_place i) (slot_bytes s) 64 (omega (arith, long)) refl at side
+bytes_kept header i at s long lt side = byte_apart header (slot_place i) (slot_bytes s) SLOT_BYTES (omega (arith, long)) refl at side
 
 pub length_kept : SlotLengthKept
 length_kept header i s long lt = length-overwritten header (slot_place i) (slot_bytes s) (omega (arith, long)) ∙ long
@@ -57,13 +58,13 @@ slot_of bytes = record {
 }
 
 -- a slot is read from its bytes alone
-slot_there : (header : List ℕ) (i : ℕ) → slot_at header i ≡ slot_of (part header (slot_place i) 64)
+slot_there : (header : List ℕ) (i : ℕ) → slot_at header i ≡ slot_of (part header (slot_place i) SLOT_BYTES)
 unfolding slot_of slot_state slot_touched slot_live slot_wrap slot_newest slot_before slot_record slot_first slot_start
 slot_there header i =
     let place = slot_place i in
-    let within = number_within header place 64 in
-    let state = sym (byte_of_part header place 64 (omega arith)) in
-    let touched = byte_within header place 64 1 (omega arith) in
+    let within = number_within header place SLOT_BYTES in
+    let state = sym (byte_of_part header place SLOT_BYTES (omega arith)) in
+    let touched = byte_within header place SLOT_BYTES 1 (omega arith) in
     let rec = ap (λ (n : ℕ). number_at header n 2) (far place 32 4) ∙ within 36 2 (omega arith) in
     let ord = ap (λ (n : ℕ). number_at header n 8) (far place 32 8) ∙ within 40 8 (omega arith) in
     rw (state, touched, within 4 4 (omega arith), within 8 8 (omega arith), within 16 8 (omega arith), within 24 8 (omega arith), within 32 4 (omega arith), rec, ord, within 48 8 (omega arith), within 56 8 (omega arith)) refl
@@ -88,8 +89,8 @@ pub read_back : SlotReadsBack
 read_back header i s fits is = slot_there header i ∙ ap slot_of is ∙ of_own_bytes s fits
 
 pub own_read : SlotReadsOwn
-own_read header i s long lt fits = read_back (with_slot header i s) i s fits (part_written header (slot_place i) (slot_bytes s) 64 (omega (arith, long)) refl)
+own_read header i s long lt fits = read_back (with_slot header i s) i s fits (part_written header (slot_place i) (slot_bytes s) SLOT_BYTES (omega (arith, long)) refl)
 
 pub others_kept : SlotsKept
 others_kept header i j s long lt lt_too other =
-    slot_there (with_slot header i s) j ∙ ap slot_of (kept_outside header i (slot_place j) 64 s long lt (places_apart 32 64 i j other)) ∙ sym (slot_there header j)
+    slot_there (with_slot header i s) j ∙ ap slot_of (kept_outside header i (slot_place j) SLOT_BYTES s long lt (places_apart BLOCK_HEAD SLOT_BYTES i j other)) ∙ sym (slot_there header j)

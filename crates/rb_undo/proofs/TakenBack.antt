@@ -5,6 +5,9 @@ use Rattle.std.proofs.lemmas.Bool.{eq-eqb}
 use Rattle.std.proofs.lemmas.Bool.Decides.{nat_tests}
 use Rattle.std.specs.List.{AllByRecursion}
 use Rattle.std.specs.Result.{is_err}
+use Rattle.rb_base.specs.declared.sizes.TheConstants.{GROUP_BYTES, SLOTS}
+use Rattle.rb_itl.specs.declared.slots.TheConstants.{ENTRIES}
+use Rattle.rb_cell.specs.declared.cell.TheConstants.{CELLS}
 use Rattle.rb_base.proofs.Blocks.{block_long, group_others}
 use Rattle.rb_base.proofs.OneBlock.{one_block}
 use Rattle.rb_base.specs.Blocks.{after_group, block_of, header_block, table_blocks, written_to, AreBlocks, IsShape, StaysBehind}
@@ -36,7 +39,7 @@ pub plus_none : (a b : ℕ) → a ≡ b + 0 → a ≡ b
 plus_none a b is = omega (arith, is)
 
 -- the patches of a home leave room for that of a table slot
-pub home_short : (block c i : ℕ) (cell : Cell) (entry : Entry) (none home : List Patch) → none ≡ [] → home ≡ none ++ home_patches block c cell i entry → IsCell cell → group_length home + 72 ≤ 2000
+pub home_short : (block c i : ℕ) (cell : Cell) (entry : Entry) (none home : List Patch) → none ≡ [] → home ≡ none ++ home_patches block c cell i entry → IsCell cell → group_length home + 72 ≤ GROUP_BYTES
 home_short block c i cell entry none home begun changed sound = rw (changed, begun) (omega (arith, length-cell cell sound))
 
 -- the group, by what each of the calls says that made it
@@ -53,7 +56,7 @@ module _ (shape : Shape) (x : Xid) (u : UndoRecord) (number : ℕ) (blocks : Lis
   abbrev group : List Patch
   group = back_patches shape x u (header_for shape blocks x)
 
-  module _ (are : AreBlocks shape blocks) (there : x.seg < shape.segments) (slot : x.slot < 16) (home : u.home < table_blocks shape) (entry : u.entry < 8) (cell : u.cell < 16) (cell_sound : IsCell (cell_of u.cell_before)) (entry_sound : IsEntry (entry_of u.entry_before)) where
+  module _ (are : AreBlocks shape blocks) (there : x.seg < shape.segments) (slot : x.slot < SLOTS) (home : u.home < table_blocks shape) (entry : u.entry < ENTRIES) (cell : u.cell < CELLS) (cell_sound : IsCell (cell_of u.cell_before)) (entry_sound : IsEntry (entry_of u.entry_before)) where
     stay : AllByRecursion StaysBehind group
     stay = (
       record { behind_head = omega arith; within_block = omega (arith, length-cell (cell_of u.cell_before) cell_sound) },

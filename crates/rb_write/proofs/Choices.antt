@@ -1,6 +1,7 @@
 -- The entry that a transaction uses, by the bytes of a block and by its home.
 use Rattle.std.proofs.Common.{◌≡◌, ℕ, ◌<◌, ◌^◌, List, inl, inr, ap, sym, subst, ◌∙◌, arith}
 use Rattle.std.proofs.lemmas.List.{get_or-map}
+use Rattle.rb_itl.specs.declared.slots.TheConstants.{ENTRIES}
 use Rattle.rb_base.specs.Blocks.{block_of, table_blocks}
 use Rattle.rb_base.specs.declared.ids.Xid.{Xid}
 use Rattle.rb_base.specs.declared.shape.Shape.{Shape}
@@ -15,27 +16,27 @@ use Rattle.rb_write.proofs.Looks.{still_open}
 use Rattle.rb_write.specs.Asks.{AreYoung}
 
 -- two blocks of entries that are the same
-module _ (f g : ℕ → Entry) (same : (j : ℕ) → j < 8 → f j ≡ g j) (x : Xid) where
-  own_agrees : (i : ℕ) → i < 8 → IsOwnChoice f x i → IsOwnChoice g x i
+module _ (f g : ℕ → Entry) (same : (j : ℕ) → j < ENTRIES → f j ≡ g j) (x : Xid) where
+  own_agrees : (i : ℕ) → i < ENTRIES → IsOwnChoice f x i → IsOwnChoice g x i
   own_agrees i lt own = record { own = rw (sym (same i lt)) own.own; lower = λ j less mine. own.lower j less (rw (same j (omega arith)) mine) }
 
-  no_agrees : (Is : Entry → Type 0) → ((j : ℕ) → j < 8 → ¬ Is (f j)) → (j : ℕ) → j < 8 → ¬ Is (g j)
+  no_agrees : (Is : Entry → Type 0) → ((j : ℕ) → j < ENTRIES → ¬ Is (f j)) → (j : ℕ) → j < ENTRIES → ¬ Is (g j)
   no_agrees Is none j lt is = none j lt (subst Is (sym (same j lt)) is)
 
-  free_agrees : (i : ℕ) → i < 8 → IsFreeChoice f x i → IsFreeChoice g x i
+  free_agrees : (i : ℕ) → i < ENTRIES → IsFreeChoice f x i → IsFreeChoice g x i
   free_agrees i lt free = record {
     no_own = no_agrees (IsOwnEntry x) free.no_own;
     free = rw (sym (same i lt)) free.free;
     lower = λ j less is. free.lower j less (rw (same j (omega arith)) is);
   }
 
-  told_agrees : (i : ℕ) → i < 8 → IsToldChoice f x i → IsToldChoice g x i
+  told_agrees : (i : ℕ) → i < ENTRIES → IsToldChoice f x i → IsToldChoice g x i
   told_agrees i lt told = record {
     no_own = no_agrees (IsOwnEntry x) told.no_own;
     no_free = no_agrees (λ (e : Entry). e.kind ≡ 0) told.no_free;
     told = subst IsTold (same i lt) told.told;
     least = λ j few is. rw (sym (same i lt), sym (same j few)) (told.least j few (subst IsTold (sym (same j few)) is));
-    lower = λ j less is. let few : j < 8 = omega arith in rw (sym (same i lt), sym (same j few)) (told.lower j less (subst IsTold (sym (same j few)) is));
+    lower = λ j less is. let few : j < ENTRIES = omega arith in rw (sym (same i lt), sym (same j few)) (told.lower j less (subst IsTold (sym (same j few)) is));
   }
 
   pub choice_agrees : (i : ℕ) → IsEntryChoice f x i → IsEntryChoice g x i
@@ -60,7 +61,7 @@ chosen_not_none f x i choice none =
     ]
 
 -- an entry of a cleaned block that is Open has a short chain
-pub chain_short : (shape : Shape) (blocks : List (List ℕ)) (look : Xid → Look) (b i : ℕ) → AreYoung shape blocks → b < table_blocks shape → i < 8
+pub chain_short : (shape : Shape) (blocks : List (List ℕ)) (look : Xid → Look) (b i : ℕ) → AreYoung shape blocks → b < table_blocks shape → i < ENTRIES
     → (home_entry (cleaned_home look (home_of (block_of blocks b))) i).kind ≡ 1 → (home_entry (cleaned_home look (home_of (block_of blocks b))) i).length < 2 ^ 31
 chain_short shape blocks look b i young lt few is =
     let home = home_of (block_of blocks b) in

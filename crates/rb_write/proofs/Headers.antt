@@ -2,6 +2,7 @@
 use Rattle.std.proofs.Common.{◌≡◌, ℕ, ◌<◌, List, Option, None, Some, inl, inr, refl, ap, sym, subst, ◌∙◌, arith}
 use Rattle.std.proofs.lemmas.Bool.{cases_eq}
 use Rattle.std.proofs.lemmas.List.{get_or-set_same}
+use Rattle.rb_base.specs.declared.sizes.TheConstants.{SLOTS}
 use Rattle.rb_base.specs.Blocks.{block_of, header_block}
 use Rattle.rb_base.specs.Groups.{Patch}
 use Rattle.rb_base.specs.declared.ids.Xid.{Xid}
@@ -32,7 +33,7 @@ young_as : (h : Header) (x : Xid) → Runs h x → IsYoung h → IsYoungAt h x.s
 young_as h x runs young = record { writes = young.writes; live = young.lives x.slot runs.slot runs.active; head = young.head; turn = young.turn }
 
 -- The slot that is taken has no live record.
-young_claimed : (header : List ℕ) (i : ℕ) → i < 16 → IsYoung (header_of header) → IsYoungAt (claimed i (header_of header)) i
+young_claimed : (header : List ℕ) (i : ℕ) → i < SLOTS → IsYoung (header_of header) → IsYoungAt (claimed i (header_of header)) i
 young_claimed header i lt young =
     let h = header_of header in
     let slot : slot_in (claimed i h) i ≡ claimed_slot h (slot_in h i) = get_or-set_same h.slots i (claimed_slot h (slot_in h i)) no_slot (omega (arith, slots_many header, lt)) in

@@ -20,7 +20,7 @@ use Rattle.rb_heap.specs.Cleaning.{has_ended}
 use Rattle.rb_heap.specs.Homes.{Home, IsFirst, IsNowhere, empty_cell, home_entry, home_of, is_keyed}
 use Rattle.rb_itl.specs.Entries.{entry_at, free_entry}
 use Rattle.rb_itl.specs.declared.slots.Entry.{Entry}
-use Rattle.rb_itl.specs.declared.slots.TheConstants.{OPEN}
+use Rattle.rb_itl.specs.declared.slots.TheConstants.{ENTRIES, OPEN}
 use Rattle.law_blocks.specs.Standing.{env_of}
 use Rattle.rb_txntable.specs.declared.looks.Look.{Look}
 use Rattle.rb_txntable.specs.declared.looks.Look.TheVariants.{Active, At, Before}
@@ -97,7 +97,7 @@ named_look shape blocks b key b_in young x is = by_cell (cell_of_key home key) i
     by_entry i true test some =
         let xid : (home_entry home i).xid ≡ x = cc in
         let opened : (home_entry home i).kind ≡ 1 = eqb-true (home_entry home i).kind 1 test in
-        elim (cases_lt i 8) [
+        elim (cases_lt i ENTRIES) [
           | inl few ↦
               let entry = young.entries b i b_in few opened in
               ap (look_of shape blocks) (sym xid) ∙ look_same shape blocks (home_entry home i).xid entry.seg entry.slot ∙ ap (env_of shape blocks).look xid

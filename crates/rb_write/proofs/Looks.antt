@@ -4,6 +4,7 @@ use Rattle.std.proofs.Common.{◌≡◌, ◌==◌, nat_lt, ℕ, zero, suc, ◌<�
 use Rattle.std.proofs.lemmas.Bool.{cases_eq, cases_lt, cond-true, cond-false}
 use Rattle.std.proofs.lemmas.Bool.Decides.{nat_tests}
 use Rattle.std.proofs.lemmas.List.{length-map, get_or-map, get_or_past}
+use Rattle.rb_base.specs.declared.sizes.TheConstants.{SLOTS}
 use Rattle.rb_base.specs.Blocks.{block_of, header_block, table_blocks}
 use Rattle.rb_base.specs.declared.ids.Xid.{Xid}
 use Rattle.rb_base.specs.declared.shape.Shape.{Shape}
@@ -14,7 +15,7 @@ use Rattle.rb_heap.specs.Cleaning.{cleaned_cell, cleaned_entry, cleaned_home, cl
 use Rattle.rb_heap.specs.Homes.{Home, empty_cell, home_entry, home_of}
 use Rattle.rb_itl.specs.Entries.{free_entry}
 use Rattle.rb_itl.specs.declared.slots.Entry.{Entry}
-use Rattle.rb_itl.specs.declared.slots.TheConstants.{OPEN}
+use Rattle.rb_itl.specs.declared.slots.TheConstants.{ENTRIES, OPEN}
 use Rattle.rb_segment.proofs.Parts.{slot_read}
 use Rattle.rb_segment.specs.Header.{Header, slot_in}
 use Rattle.law_blocks.proofs.SegmentRead.{header_is}
@@ -25,14 +26,14 @@ use Rattle.rb_txntable.specs.declared.looks.Look.TheVariants.{Active, At, Before
 use Rattle.rb_txntable.specs.declared.slots.TableSlot.{TableSlot}
 use Rattle.rb_write.specs.Asks.{AreYoung}
 
-pub look_same : (shape : Shape) (blocks : List (List ℕ)) (x : Xid) → x.seg < shape.segments → x.slot < 16 → look_of shape blocks x ≡ (env_of shape blocks).look x
+pub look_same : (shape : Shape) (blocks : List (List ℕ)) (x : Xid) → x.seg < shape.segments → x.slot < SLOTS → look_of shape blocks x ≡ (env_of shape blocks).look x
 look_same shape blocks x seg slot =
     let one : nat_lt x.seg shape.segments ≡ true = grind (arith, nat_tests) in
-    let two : nat_lt x.slot 16 ≡ true = grind (arith, nat_tests) in
+    let two : nat_lt x.slot SLOTS ≡ true = grind (arith, nat_tests) in
     rw (one, two) (ap (λ (s : TableSlot). slot_look s x.wrap) (sym (slot_read (block_of blocks (header_block shape x.seg)) x.slot slot) ∙ ap (λ (h : Header). slot_in h x.slot) (sym (header_is shape blocks x.seg))))
 
 -- two looks that agree of the transactions of a home's Open entries
-module _ (look other : Xid → Look) (home : Home) (many : length home.entries ≡ 8) (same : (i : ℕ) → i < 8 → (home_entry home i).kind ≡ 1 → look (home_entry home i).xid ≡ other (home_entry home i).xid) where
+module _ (look other : Xid → Look) (home : Home) (many : length home.entries ≡ ENTRIES) (same : (i : ℕ) → i < ENTRIES → (home_entry home i).kind ≡ 1 → look (home_entry home i).xid ≡ other (home_entry home i).xid) where
   entry_same : (e : Entry) → (e.kind ≡ 1 → look e.xid ≡ other e.xid) → (to_clean look e ≡ to_clean other e) × (cleaned_entry look e ≡ cleaned_entry other e)
   entry_same e agree = elim (cases_eq e.kind 1) [
     | inl is ↦ rw (agree is) (refl, refl)
@@ -40,7 +41,7 @@ module _ (look other : Xid → Look) (home : Home) (many : length home.entries �
   ]
 
   place_same : (i : ℕ) → (to_clean look (home_entry home i) ≡ to_clean other (home_entry home i)) × (cleaned_entry look (home_entry home i) ≡ cleaned_entry other (home_entry home i))
-  place_same i = elim (cases_lt i 8) [
+  place_same i = elim (cases_lt i ENTRIES) [
     | inl lt ↦ entry_same (home_entry home i) (same i lt)
     | inr le ↦ rw (get_or_past home.entries i free_entry (omega (arith, many))) (refl, refl)
   ]

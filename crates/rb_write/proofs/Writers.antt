@@ -1,6 +1,7 @@
 -- The transaction that writes: of the segments one has the fewest that run, and a slot of it can be taken.
 use Rattle.std.proofs.Common.{◌≡◌, ◌≢◌, ℕ, zero, suc, ◌+◌, ◌<◌, ◌≤◌, List, Option, None, Some, refl, arith, ap, sym, subst, ◌∙◌, inl, inr}
 use Rattle.std.proofs.lemmas.Bool.{cases_eq, cases_lt}
+use Rattle.rb_base.specs.declared.sizes.TheConstants.{SLOTS}
 use Rattle.rb_base.specs.Blocks.{block_of, header_block}
 use Rattle.rb_base.specs.declared.ids.Xid.{Xid}
 use Rattle.rb_base.specs.declared.shape.Shape.{Shape}
@@ -45,7 +46,7 @@ less f n g least so_far lt = record {
 }
 
 -- or isn't
-pub no_less : (f : ℕ → ℕ) (n g least : ℕ) → IsSoFar f n g least → f n ≤ 16 → least ≤ f n → IsSoFar f (n + 1) g least
+pub no_less : (f : ℕ → ℕ) (n g least : ℕ) → IsSoFar f n g least → f n ≤ SLOTS → least ≤ f n → IsSoFar f (n + 1) g least
 no_less f n g least so_far few le = elim (cases_lt 0 n) [
   | inl some ↦
       let one = so_far.one (omega arith) in
@@ -66,7 +67,7 @@ no_less f n g least so_far few le = elim (cases_lt 0 n) [
   | inr empty ↦ let none = so_far.none (omega arith) in absurd (omega (arith, none, few, le))
 ]
 
-there_is : (f : ℕ → ℕ) (n : ℕ) → ((k : ℕ) → f k ≤ 16) → (g : ℕ) × (least : ℕ) × IsSoFar f n g least
+there_is : (f : ℕ → ℕ) (n : ℕ) → ((k : ℕ) → f k ≤ SLOTS) → (g : ℕ) × (least : ℕ) × IsSoFar f n g least
 there_is f zero few = (0, 4294967295, none_yet f 0)
 there_is f (suc n) few =
     let before = there_is f n few in
@@ -76,11 +77,11 @@ there_is f (suc n) few =
       | inr le ↦ (before.0, before.1, rw more (no_less f n before.0 before.1 before.2 (few n) le))
     ]
 
-pub active_few : (header : List ℕ) → active_count header ≤ 16
-active_few header = active_before-few header 16
+pub active_few : (header : List ℕ) → active_count header ≤ SLOTS
+active_few header = active_before-few header SLOTS
 
 -- fewer run where a slot is idle
-idle_before : (header : List ℕ) (i n : ℕ) → n ≤ 16 → i < n → slot_state header i ≢ 1 → active_before header n < n
+idle_before : (header : List ℕ) (i n : ℕ) → n ≤ SLOTS → i < n → slot_state header i ≢ 1 → active_before header n < n
 idle_before header i zero le lt idle = absurd (omega arith)
 idle_before header i (suc n) le lt idle =
     elim (cases_eq i n) [
@@ -96,10 +97,10 @@ idle_before header i (suc n) le lt idle =
     one_up : active_before header (n + 1) < n + 1 → active_before header (suc n) < suc n
     one_up lt = let P : ℕ → Type 0 = λ k. active_before header k < k in subst P (omega arith) lt
 
-pub idle_few : (header : List ℕ) (i : ℕ) → i < 16 → (slot_in (header_of header) i).state ≢ 1 → active_count header < 16
-idle_few header i lt idle = idle_before header i 16 (omega arith) lt (λ is. idle (ap (λ (s : TableSlot). s.state) (slot_read header i lt) ∙ is))
+pub idle_few : (header : List ℕ) (i : ℕ) → i < SLOTS → (slot_in (header_of header) i).state ≢ 1 → active_count header < SLOTS
+idle_few header i lt idle = idle_before header i SLOTS (omega arith) lt (λ is. idle (ap (λ (s : TableSlot). s.state) (slot_read header i lt) ∙ is))
 
-all_before : (header : List ℕ) (n : ℕ) → n ≤ 16 → ((i : ℕ) → i < 16 → slot_state header i ≡ 1) → active_before header n ≡ n
+all_before : (header : List ℕ) (n : ℕ) → n ≤ SLOTS → ((i : ℕ) → i < SLOTS → slot_state header i ≡ 1) → active_before header n ≡ n
 all_before header zero le all = refl
 all_before header (suc n) le all =
     let up : active_before header (n + 1) ≡ n + 1 = omega (arith, one_more header n (omega arith) (all n (omega arith)), all_before header n (omega arith) all) in
@@ -126,12 +127,12 @@ choice_of header (suc n) =
       ]
     ]
 
-chosen_there : (header : List ℕ) → active_count header < 16 → (i : ℕ) × IsChosen (slot_at header) i
-chosen_there header few = let all = choice_of header 16 in by all.0 all.1
+chosen_there : (header : List ℕ) → active_count header < SLOTS → (i : ℕ) × IsChosen (slot_at header) i
+chosen_there header few = let all = choice_of header SLOTS in by all.0 all.1
   where
-    by : (chosen : Option ℕ) → IsChoice header 16 chosen → (i : ℕ) × IsChosen (slot_at header) i
-    by None h = let all : active_count header ≡ 16 = all_before header 16 (omega arith) h.none in absurd (omega (arith, all, few))
-    by (Some c) h = let best : IsBest header 16 c = h.found in (c, record { within = best.within; idle = best.idle; least = best.least; first = best.first })
+    by : (chosen : Option ℕ) → IsChoice header SLOTS chosen → (i : ℕ) × IsChosen (slot_at header) i
+    by None h = let all : active_count header ≡ SLOTS = all_before header SLOTS (omega arith) h.none in absurd (omega (arith, all, few))
+    by (Some c) h = let best : IsBest header SLOTS c = h.found in (c, record { within = best.within; idle = best.idle; least = best.least; first = best.first })
 
 module _ (shape : Shape) (blocks : List (List ℕ)) where
   -- how many of segment k run
@@ -142,7 +143,7 @@ module _ (shape : Shape) (blocks : List (List ℕ)) where
   fewest_of g least some so_far = let one = (so_far.one some).1 in record { within = one.within; least = one.least; lower = one.lower }
 
   -- the segment with the fewest that run has a slot to be taken, where any has
-  pub idle_in : (g : ℕ) → IsFewest shape blocks g → ((k : ℕ) × (k < shape.segments) × ((i : ℕ) × (i < 16) × ((slot_in (header_in shape blocks k) i).state ≢ 1))) → run_in g < 16
+  pub idle_in : (g : ℕ) → IsFewest shape blocks g → ((k : ℕ) × (k < shape.segments) × ((i : ℕ) × (i < SLOTS) × ((slot_in (header_in shape blocks k) i).state ≢ 1))) → run_in g < SLOTS
   idle_in g fewest there = omega (arith, fewest.least there.0 there.1, idle_few (block_of blocks (header_block shape there.0)) there.2.0 there.2.1 there.2.2)
 
   pub writer_there : (own : Option Xid) → 1 ≤ shape.segments → MayWrite shape blocks own → (x : Xid) × (ready : Header) × IsWriterOf shape blocks own x ready

@@ -1,8 +1,13 @@
 -- What the group of a write makes of the blocks of a file.
-use Rattle.std.proofs.Common.{◌≡◌, ◌≢◌, ◌⊎◌, ℕ, ◌+◌, ◌*◌, ◌/◌, ◌%◌, ◌<◌, ◌≤◌, ◌==◌, true, false, List, [], ◌∷◌, ◌++◌, length, take, drop, refl, arith, append_assoc, ap, sym, subst, ◌∙◌, inl, inr, Option, None, Some}
+use Rattle.std.proofs.Common.{◌-◌, ◌≡◌, ◌≢◌, ◌⊎◌, ℕ, ◌+◌, ◌*◌, ◌/◌, ◌%◌, ◌<◌, ◌≤◌, ◌==◌, true, false, List, [], ◌∷◌, ◌++◌, length, take, drop, refl, arith, append_assoc, ap, sym, subst, ◌∙◌, inl, inr, Option, None, Some}
 use Rattle.std.proofs.lemmas.Bool.{eq-eqb, ne_eqb}
 use Rattle.std.proofs.lemmas.List.{drop-drop, drop-take, length-append}
 use Rattle.std.specs.List.{AllByRecursion}
+use Rattle.rb_undoblock.specs.declared.record.TheConstants.{UNDO_BYTES, UNDO_RECORDS}
+use Rattle.rb_ring.specs.declared.extents.TheConstants.{EXTENT_RECORDS}
+use Rattle.rb_itl.specs.declared.slots.TheConstants.{ENTRIES}
+use Rattle.rb_cell.specs.declared.cell.TheConstants.{CELLS, CELL_BYTES, LENGTH_AT}
+use Rattle.rb_base.specs.declared.sizes.TheConstants.{BLOCK_HEAD, SEGMENT_BLOCKS, SLOTS, UNIT}
 use Rattle.byteorder.specs.Endian.{big_number}
 use Rattle.byteorder.specs.Numbers.{big_from-take}
 use Rattle.rb_base.proofs.Blocks.{block_long}
@@ -47,11 +52,11 @@ use Rattle.rb_write.specs.declared.ask.Ask.{Ask}
 use Rattle.rb_write.specs.declared.home.Place.{Place}
 
 -- A cell's 92 bytes tell the length of its value.
-value_of_cell : (block : List ℕ) (c : ℕ) → number_at (part block (cell_place c) 92) 2 2 ≡ value_length block c
+value_of_cell : (block : List ℕ) (c : ℕ) → number_at (part block (cell_place c) CELL_BYTES) 2 2 ≡ value_length block c
 unfolding value_length
 value_of_cell block c =
     let rest = drop (cell_place c) block in
-    ap (big_number 2) (drop-take 2 90 rest) ∙ big_from-take 0 2 90 (drop 2 rest) (omega arith) ∙ ap (big_number 2) (drop-drop 2 (cell_place c) block)
+    ap (big_number 2) (drop-take 2 (CELL_BYTES - LENGTH_AT) rest) ∙ big_from-take 0 2 (CELL_BYTES - LENGTH_AT) (drop 2 rest) (omega arith) ∙ ap (big_number 2) (drop-drop 2 (cell_place c) block)
 
 -- patches of other blocks write nothing over this one
 untouched : (which : ℕ) (ps : List Patch) (copy : List ℕ) → AllByRecursion (λ p. p.block ≢ which) ps → written_to which ps copy ≡ copy
@@ -63,15 +68,15 @@ pub record Prepared (shape : Shape) (blocks : List (List ℕ)) (ask : Ask) (p : 
   pub are : AreBlocks shape blocks
   pub there : p.block ≡ home_block shape ask.table ask.key
   pub of_rows : p.block < table_blocks shape
-  pub entry : p.entry < 8
-  pub cell : p.cell < 16
+  pub entry : p.entry < ENTRIES
+  pub cell : p.cell < CELLS
   pub seg : x.seg < shape.segments
   pub valid : AllByRecursion IsPatch group
   pub copy : List ℕ
   pub cleaning : List Patch
   pub cleans : AllByRecursion (IsCleanPatch p.block) cleaning
   pub copied : copy ≡ written_to p.block cleaning (block_of blocks p.block)
-  pub long : length copy ≡ 2048
+  pub long : length copy ≡ UNIT
   pub cleaned : home_of copy ≡ cleaned_home (env_of shape blocks).look (home_of (block_of blocks p.block))
   pub header : List ℕ
   pub taking : List Patch
@@ -88,7 +93,7 @@ pub record Prepared (shape : Shape) (blocks : List (List ℕ)) (ask : Ask) (p : 
 -- An undo record is read behind the head alone.
 undo_same : (one other : List ℕ) (r : ℕ) → behind_head one ≡ behind_head other → undo_at one r ≡ undo_at other r
 unfolding undo_at
-undo_same one other r same = ap (λ (l : List ℕ). undo_of (take 192 l)) (sym (drop-drop (192 * r) 32 one) ∙ ap (drop (192 * r)) same ∙ drop-drop (192 * r) 32 other)
+undo_same one other r same = ap (λ (l : List ℕ). undo_of (take UNDO_BYTES l)) (sym (drop-drop (UNDO_BYTES * r) BLOCK_HEAD one) ∙ ap (drop (UNDO_BYTES * r)) same ∙ drop-drop (UNDO_BYTES * r) BLOCK_HEAD other)
 
 -- What turns patches the header alone,
 turn_blocks : (block : ℕ) (h room : Header) (before : List Patch) → HasTurned block h room before → AllByRecursion (λ (q : Patch). q.block ≡ block) before
@@ -105,10 +110,10 @@ ready_blocks block i ready taking takes = elim takes [
 ]
 
 -- A turn leaves a head that there is, and room.
-turn_place : (block : ℕ) (h room : Header) (before : List Patch) → h.head < 8 → HasTurned block h room before → (room.head < 8) × (room.records < 40)
+turn_place : (block : ℕ) (h room : Header) (before : List Patch) → h.head < 8 → HasTurned block h room before → (room.head < 8) × (room.records < EXTENT_RECORDS)
 turn_place block h room before few turned = elim turned [
-  | inl same ↦ subst (λ (k : Header). (k.head < 8) × (k.records < 40)) (sym same.1) (few, same.0)
-  | inr turn ↦ subst (λ (k : Header). (k.head < 8) × (k.records < 40)) (sym turn.2) (turn.1.within, omega arith)
+  | inl same ↦ subst (λ (k : Header). (k.head < 8) × (k.records < EXTENT_RECORDS)) (sym same.1) (few, same.0)
+  | inr turn ↦ subst (λ (k : Header). (k.head < 8) × (k.records < EXTENT_RECORDS)) (sym turn.2) (turn.1.within, omega arith)
 ]
 
 -- what holds a row as it is adds none
@@ -120,7 +125,7 @@ held_adds_none None is = refl
 
 -- what the record keeps, of the copy that the change finds
 module _ (copy : List ℕ) (h : Header) (ask : Ask) (x : Xid) (p : Place) (u : UndoRecord) (of : IsUndoOf copy h ask x p u) where
-  keeps_copy : (block : List ℕ) → p.entry < 8 → p.cell < 16 → IsEntryChoice (home_entry (home_of copy)) x p.entry → IsCellChoice (home_of copy) (adds_row ask.op) ask.key p.cell
+  keeps_copy : (block : List ℕ) → p.entry < ENTRIES → p.cell < CELLS → IsEntryChoice (home_entry (home_of copy)) x p.entry → IsCellChoice (home_of copy) (adds_row ask.op) ask.key p.cell
       → value_length copy p.cell ≡ value_length block p.cell → KeepsHome (home_of copy) block x (adds_row ask.op) (kind_of ask.op) u
   keeps_copy block few fewer choice place same = record {
     sort = of.sort;
@@ -168,7 +173,7 @@ module _ (shape : Shape) (blocks : List (List ℕ)) (ask : Ask) (p : Place) (gro
       ∙ ap (written_to which last) (written_on which (pr.cleaning ++ pr.taking) pr.changes.patches copy ∙ ap (written_to which pr.changes.patches) (written_on which pr.cleaning pr.taking copy))
 
   -- the record's block is one of its segment's, behind the header
-  record_place : (hb < a.block) × (a.block < hb + 33) × (a.rec < 10)
+  record_place : (hb < a.block) × (a.block < hb + SEGMENT_BLOCKS) × (a.rec < UNDO_RECORDS)
   record_place =
       let few = turn_place hb (header_of pr.header) pr.changes.recorded.room pr.changes.recorded.before pr.young.head pr.changes.recorded.has_turned in
       let block = ap (λ (u : Uba). u.block) pr.changes.recorded.at in
@@ -331,11 +336,11 @@ module _ (shape : Shape) (blocks : List (List ℕ)) (ask : Ask) (p : Place) (gro
   some = omega (arith, ap length pr.changes.group, length-append (pr.cleaning ++ pr.taking ++ pr.changes.patches) last)
 
 -- So the transaction of slot t has made the write.
-written : (shape : Shape) (blocks : List (List ℕ)) (ask : Ask) (p : Place) (group : List Patch) (t w : ℕ) (pr : Prepared shape blocks ask p group (record { seg = t / 16; slot = t % 16; wrap = w }))
+written : (shape : Shape) (blocks : List (List ℕ)) (ask : Ask) (p : Place) (group : List Patch) (t w : ℕ) (pr : Prepared shape blocks ask p group (record { seg = t / SLOTS; slot = t % SLOTS; wrap = w }))
     → IsWritten shape t (adds_row ask.op) (kind_of ask.op) pr.changes.address pr.changes.undo blocks (after_group (logged_of shape blocks + 1) group blocks)
 unfolding recorded
 written shape blocks ask p group t w pr =
-    let x : Xid = record { seg = t / 16; slot = t % 16; wrap = w } in
+    let x : Xid = record { seg = t / SLOTS; slot = t % SLOTS; wrap = w } in
     let number = logged_of shape blocks + 1 in
     let now = after_group number group blocks in
     let look = (env_of shape blocks).look in
@@ -345,12 +350,12 @@ written shape blocks ask p group t w pr =
     let at = sym of.home in
     record {
       xid = x;
-      xid_is = ap (λ (n : ℕ). let k : Xid = record { seg = t / 16; slot = t % 16; wrap = n } in k) (sym of.wrap);
+      xid_is = ap (λ (n : ℕ). let k : Xid = record { seg = t / SLOTS; slot = t % SLOTS; wrap = n } in k) (sym of.wrap);
       group = record {
         patches = group;
         some = some shape blocks ask p group x number pr;
         each = pr.valid;
-        only = subst (λ (b : ℕ). AllByRecursion (λ (q : Patch). (q.block ≡ b) ⊎ (q.block ≡ header_block shape (t / 16)) ⊎ (q.block ≡ a.block)) group) at (only shape blocks ask p group x number pr);
+        only = subst (λ (b : ℕ). AllByRecursion (λ (q : Patch). (q.block ≡ b) ⊎ (q.block ≡ header_block shape (t / SLOTS)) ⊎ (q.block ≡ a.block)) group) at (only shape blocks ask p group x number pr);
         made = refl;
       };
       keeps = subst (λ (b : ℕ). KeepsHome (cleaned_home look (home_of (block_of blocks b))) (block_of blocks b) x (adds_row ask.op) (kind_of ask.op) u) at
@@ -358,7 +363,7 @@ written shape blocks ask p group t w pr =
       home = subst (λ (b : ℕ). home_of (block_of now b) ≡ home_after (kind_of ask.op) x a u (cleaned_home look (home_of (block_of blocks b)))) at (home_now shape blocks ask p group x number pr);
       short = subst (λ (b : ℕ). StaysShort (block_of blocks b) (block_of now b)) at (short_now shape blocks ask p group x number pr);
       recorded = recorded shape blocks ask p group x number pr;
-      patches = subst (λ (b : ℕ). AreOfChange (header_block shape (t / 16)) (t % 16) (kind_of ask.op) x a u (cleaned_home look (home_of (block_of blocks b))) (header_of pr.header) pr.changes.recorded.room (header_of (block_of now (header_block shape (t / 16)))) group) at
+      patches = subst (λ (b : ℕ). AreOfChange (header_block shape (t / SLOTS)) (t % SLOTS) (kind_of ask.op) x a u (cleaned_home look (home_of (block_of blocks b))) (header_of pr.header) pr.changes.recorded.room (header_of (block_of now (header_block shape (t / SLOTS)))) group) at
           (patched shape blocks ask p group x number pr);
     }
 
@@ -370,15 +375,15 @@ pub record IsMadeBy (shape : Shape) (blocks : List (List ℕ)) (ask : Ask) (grou
   pub key : undo.key ≡ ask.key
   pub wrap : undo.wrap ≡ x.wrap
   pub home : undo.home ≡ home_block shape ask.table ask.key
-  pub is_written : IsWritten shape (16 * x.seg + x.slot) (adds_row ask.op) (kind_of ask.op) address undo blocks (after_group (logged_of shape blocks + 1) group blocks)
+  pub is_written : IsWritten shape (SLOTS * x.seg + x.slot) (adds_row ask.op) (kind_of ask.op) address undo blocks (after_group (logged_of shape blocks + 1) group blocks)
 
 pub made_by : (shape : Shape) (blocks : List (List ℕ)) (ask : Ask) (p : Place) (group : List Patch) (x : Xid) → Prepared shape blocks ask p group x → IsMadeBy shape blocks ask group x
 made_by shape blocks ask p group x prepared =
-    let t = 16 * x.seg + x.slot in
+    let t = SLOTS * x.seg + x.slot in
     let few = prepared.runs.slot in
-    let seg : t / 16 ≡ x.seg = omega (arith, few) in
-    let slot : t % 16 ≡ x.slot = omega (arith, few) in
-    let same : x ≡ record { seg = t / 16; slot = t % 16; wrap = x.wrap } = rw (seg, slot) refl in
+    let seg : t / SLOTS ≡ x.seg = omega (arith, few) in
+    let slot : t % SLOTS ≡ x.slot = omega (arith, few) in
+    let same : x ≡ record { seg = t / SLOTS; slot = t % SLOTS; wrap = x.wrap } = rw (seg, slot) refl in
     let pr = subst (Prepared shape blocks ask p group) same prepared in
     record {
       address = pr.changes.address;

@@ -1,4 +1,5 @@
-use Rattle.std.proofs.Common.{◌≡◌, ◌<◌, ℕ, List, Option, Some, None, IfSome, IfNone, get_or, sym, ◌∙◌, ap, arith, Ok, Err}
+use Rattle.std.proofs.Common.{◌*◌, ◌≡◌, ◌<◌, ℕ, List, Option, Some, None, IfSome, IfNone, get_or, sym, ◌∙◌, ap, arith, Ok, Err}
+use Rattle.rb_ring.specs.declared.extents.TheConstants.{EXTENTS, EXTENT_RECORDS}
 use Rattle.rb_base.specs.Blocks.{block_of, header_block}
 use Rattle.rb_base.specs.Logs.{load_logs}
 use Rattle.rb_segment.specs.Header.{Segment, header_of, record_in}
@@ -12,8 +13,8 @@ use Rattle.rb_cr.proofs.reads.find_place.Goals as goal
 
 -- the place that was found is that of the record
 place_is : (s : Segment) (header : List ℕ) (index k : ℕ) (o : Option ℕ) → s.header ≡ header_of header → index ≡ k
-    → IfSome o (λ at. (at < 320) × ((s : Segment) → s.header ≡ header_of header → record_in s index ≡ Some (get_or s.undo at no_undo)))
-    → IfSome o (λ at. (at < 320) × (record_in s k ≡ Some (get_or s.undo at no_undo)))
+    → IfSome o (λ at. (at < (EXTENTS * EXTENT_RECORDS)) × ((s : Segment) → s.header ≡ header_of header → record_in s index ≡ Some (get_or s.undo at no_undo)))
+    → IfSome o (λ at. (at < (EXTENTS * EXTENT_RECORDS)) × (record_in s k ≡ Some (get_or s.undo at no_undo)))
 place_is s header index k None same is found = found
 place_is s header index k (Some at) same is found = (found.0, sym (ap (record_in s) is) ∙ found.1 s same)
 

@@ -1,4 +1,5 @@
 use Rattle.std.proofs.Common.{◌≡◌, ◌+◌, ◌/◌, ◌%◌, ℕ, List, sym, ◌∙◌, ap, Ok, Err}
+use Rattle.rb_undoblock.specs.declared.record.TheConstants.{UNDO_RECORDS}
 use Rattle.rb_base.specs.Blocks.{block_of, header_block}
 use Rattle.rb_base.specs.Logs.{load_logs}
 use Rattle.rb_undoblock.specs.Undo.{undo_at}
@@ -14,12 +15,12 @@ returns-clause-told g c = λ told.
     let place = c.args.place in
     let blocks = s.blocks c.args.store.now in
     let records = c.from-records.result in
-    let ten : records ≡ 10 = c.from-records.ensures in
+    let ten : records ≡ UNDO_RECORDS = c.from-records.ensures in
     let one : ℕ = c.header_block.result + 1 + place / records in
-    let which : ℕ = header_block shape seg + 1 + place / 10 in
-    let at : one ≡ which = ap (λ (z : ℕ). c.header_block.result + 1 + place / z) ten ∙ ap (λ (z : ℕ). z + 1 + place / 10) c.header_block.ensures.number in
+    let which : ℕ = header_block shape seg + 1 + place / UNDO_RECORDS in
+    let at : one ≡ which = ap (λ (z : ℕ). c.header_block.result + 1 + place / z) ten ∙ ap (λ (z : ℕ). z + 1 + place / UNDO_RECORDS) c.header_block.ensures.number in
     let block : c.block.result.now ≡ block_of blocks which = loaded_is c.block.result.now blocks (s.blocks c.load.new.self) one which (c.block.ensures.block told one c.in_ok-load.ensures.loaded) (c.in_ok-load.ensures.blocks told) at in
-    c.undo_at.ensures ∙ (ap (λ (z : ℕ). undo_at c.block.result.now (place % z)) ten ∙ (ap (λ (z : List ℕ). undo_at z (place % 10)) block ∙ sym (place_read shape blocks seg place c.requires.within)))
+    c.undo_at.ensures ∙ (ap (λ (z : ℕ). undo_at c.block.result.now (place % z)) ten ∙ (ap (λ (z : List ℕ). undo_at z (place % UNDO_RECORDS)) block ∙ sym (place_read shape blocks seg place c.requires.within)))
 
 pub returns-in_err-load-clause-logs : goal.returns-in_err-load-clause-logs
 returns-in_err-load-clause-logs g c =

@@ -1,4 +1,5 @@
-use Rattle.std.proofs.Common.{◌≡◌, ◌<◌, ℕ, List, [], true, false, Option, Some, IfSome, get_or, refl, ◌∙◌, ap, subst}
+use Rattle.std.proofs.Common.{◌*◌, ◌≡◌, ◌<◌, ℕ, List, [], true, false, Option, Some, IfSome, get_or, refl, ◌∙◌, ap, subst}
+use Rattle.rb_ring.specs.declared.extents.TheConstants.{EXTENTS, EXTENT_RECORDS}
 use Rattle.rb_base.specs.Logs.{more_logs}
 use Rattle.rb_segment.specs.Header.{record_in}
 use Rattle.law_blocks.specs.Says.{place_of}
@@ -29,8 +30,8 @@ returns-clause-told g c = λ told.
     let seg = c.in-Some.seg in
     let at = c.in-Some-2.place in
     let u = c.args.address in
-    let there : (at < 320) × (record_in (segments_of shape (s.blocks old) seg) (place_of shape u).index ≡ Some (get_or (segments_of shape (s.blocks old) seg).undo at no_undo)) =
-    subst (λ (o : Option ℕ). IfSome o (λ at. (at < 320) × (record_in (segments_of shape (s.blocks old) seg) (place_of shape u).index ≡ Some (get_or (segments_of shape (s.blocks old) seg).undo at no_undo)))) c.in-Some-2.is (c.in_ok-place.ensures.some told) in
+    let there : (at < (EXTENTS * EXTENT_RECORDS)) × (record_in (segments_of shape (s.blocks old) seg) (place_of shape u).index ≡ Some (get_or (segments_of shape (s.blocks old) seg).undo at no_undo)) =
+    subst (λ (o : Option ℕ). IfSome o (λ at. (at < (EXTENTS * EXTENT_RECORDS)) × (record_in (segments_of shape (s.blocks old) seg) (place_of shape u).index ≡ Some (get_or (segments_of shape (s.blocks old) seg).undo at no_undo)))) c.in-Some-2.is (c.in_ok-place.ensures.some told) in
     let undo : c.in_ok-undo.undo ≡ get_or (segments_of shape (s.blocks old) seg).undo at no_undo =
     c.in_ok-undo.ensures.told told ∙ ap (λ (z : List (List ℕ)). get_or (segments_of shape z seg).undo at no_undo) (c.in_ok-place.ensures.logs.blocks told refl) in
     found_is shape (s.shape_of old) (s.blocks old) u c.shape-shape.ensures.shape seg at c.in_ok-undo.undo c.in-Some.ensures.some.1 there.1 undo

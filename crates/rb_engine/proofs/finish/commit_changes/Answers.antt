@@ -1,4 +1,5 @@
 use Rattle.std.proofs.Common.{inr, ◌≡◌, ◌<◌, ◌+◌, ◌*◌, ◌/◌, length, Some, false, true, refl, sym, ◌∙◌, ap, subst, arith}
+use Rattle.rb_base.specs.declared.sizes.TheConstants.{SLOTS}
 use Rattle.rb_base.specs.Logs.{Laws}
 use Rattle.rb_engine.specs.Does.{Does, EngineView, IsInStep, Kept, Stands}
 use Rattle.law_crash.proofs.Kept.{rows_kept}
@@ -86,7 +87,7 @@ returns-in-Ok-clause-rows g c = λ h st.
     let number = next_known s st.told (laws_of g) h old c.args.s c.args.xid here going there own c.saturating_add-scn.result (let few = low.few (ap (λ (k : Kept). k.stopped) c.memory.view_is ∙ c.requires.going) in omega (arith, few)) c.saturating_add-scn.ensures in
     let who = who_in s st.told (laws_of g) h old c.args.s c.args.xid here going there own in
     let did = c.in-Ok.ensures.commits st.told h held.xids c.args.s st.shape held.holds who.0 who.1 (own_id s st.told (laws_of g) h old c.args.s c.args.xid here going there own) some number in
-    rows_kept h.shape ((16 * c.args.xid.seg + c.args.xid.slot) / 16) (s.blocks store) (s.blocks c.commit_and_flush.new.store) did.4.group
+    rows_kept h.shape ((SLOTS * c.args.xid.seg + c.args.xid.slot) / SLOTS) (s.blocks store) (s.blocks c.commit_and_flush.new.store) did.4.group
 
 pub returns-in-Err-clause-did : goal.returns-in-Err-clause-did
 returns-in-Err-clause-did g c = rw c.fail.ensures.answer (λ h st.

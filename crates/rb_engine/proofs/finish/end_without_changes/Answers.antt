@@ -1,4 +1,5 @@
 use Rattle.std.proofs.Common.{inr, [], ◌≡◌, ◌+◌, ◌*◌, ◌/◌, ℕ, List, Some, length, false, refl, sym, ◌∙◌, ap, subst, arith}
+use Rattle.rb_base.specs.declared.sizes.TheConstants.{SLOTS}
 use Rattle.rb_base.specs.Logs.{Laws}
 use Rattle.rb_engine.specs.Does.{Does, EngineView, IsInStep, Kept, Stands, slots_had}
 use Rattle.law_crash.proofs.Kept.{rows_kept}
@@ -82,12 +83,12 @@ returns-clause-rows g c = λ h st.
     let none : length (session_own h c.args.s) ≡ 0 = sym count ∙ (ap (λ (k : Kept). (kept_at k.sessions c.args.s).count) c.memory.view_is ∙ c.requires.none) in
     let held = goes s st.told (laws_of g) h old c.args.s c.args.xid here going there own in
     let who = who_in s st.told (laws_of g) h old c.args.s c.args.xid here going there own in
-    let slot = 16 * c.args.xid.seg + c.args.xid.slot in
+    let slot = SLOTS * c.args.xid.seg + c.args.xid.slot in
     let now = s.blocks c.put_all_back.new.store in
     let did = c.in-Ok.ensures.puts_back st.told h held.xids c.args.s st.shape held.holds who.0 who.1 (own_id s st.told (laws_of g) h old c.args.s c.args.xid here going there own) going none in
     let last = (did []).4 in
     let back : last.0 ≡ s.blocks store = subst (λ n. BackOver h.shape slot n (s.blocks store) last.0) none last.1 in
-    rows_kept h.shape (slot / 16) (s.blocks store) now (subst (λ (blocks : List (List ℕ)). IsEnded h.shape slot blocks now) back last.2).group
+    rows_kept h.shape (slot / SLOTS) (s.blocks store) now (subst (λ (blocks : List (List ℕ)). IsEnded h.shape slot blocks now) back last.2).group
 
 pub returns-in-Err-clause-did : goal.returns-in-Err-clause-did
 returns-in-Err-clause-did g c = rw c.fail.ensures.answer (λ h st.

@@ -1,6 +1,7 @@
 use Rattle.std.proofs.Common.{inl, ◌≡◌, ◌<◌, List, length, None, refl, sym, ◌∙◌, ap, subst, arith, map, ◌-◌}
 use Rattle.std.proofs.lemmas.Bool.{le-leb, lt-leb}
 use Rattle.std.proofs.lemmas.Result.{err_from_is_err_and}
+use Rattle.rb_sessions.specs.declared.savepoint.TheConstants.{SAVEPOINTS}
 use Rattle.rb_base.specs.Logs.{Laws, no_logs}
 use Rattle.rb_engine.specs.Does.{Does, Goes, IsInStep, Kept, Stands}
 use Rattle.rb_model.specs.Calls as machine

@@ -1,5 +1,6 @@
 use Rattle.std.proofs.Common.{◌≡◌, ◌≤◌, ◌<◌, inl, ℕ, Bool, true, false, not, List, [], Option, Err, refl, sym, ◌∙◌, ap, subst, arith}
 use Rattle.std.proofs.lemmas.Result.{err_from_is_err_and}
+use Rattle.rb_base.specs.declared.sizes.TheConstants.{SLOTS}
 use Rattle.rb_base.specs.Logs.{Laws, Logs, more_logs}
 use Rattle.rb_base.specs.declared.shape.Shape.{Shape}
 use Rattle.rb_engine.specs.Does.{EngineView, IsInStep, Kept}
@@ -227,7 +228,7 @@ returns-in-Ok-clause-step g c =
     let inside : c.memory.inside.sessions ≡ kept.sessions = ap (λ (m : Kept). m.sessions) (c.memory.view_is ∙ (c.in_ok-check_late.ensures.stops ∙ c.in_ok-on.ensures.stops)) in
     let waits : c.memory.inside.waits ≡ kept.waits = ap (λ (m : Kept). m.waits) (c.memory.view_is ∙ (c.in_ok-check_late.ensures.stops ∙ c.in_ok-on.ensures.stops)) in
     let moved : now.sessions ≡ with_kept kept.sessions u k = c.wrote.ensures ∙ ap (λ (l : List KeptSession). with_kept l u (wrote c.in-Ok.xid (kept_at l u))) inside in
-    let seg = subst (λ (z : Shape). (c.in-Ok.xid.seg < z.segments) × (c.in-Ok.xid.slot < 16)) before.same_shape c.in-Ok.ensures.there in
+    let seg = subst (λ (z : Shape). (c.in-Ok.xid.seg < z.segments) × (c.in-Ok.xid.slot < SLOTS)) before.same_shape c.in-Ok.ensures.there in
     let fit = fit_wrote (s.shape_of old) c.in-Ok.xid (kept_at kept.sessions u) (fit_at s kept old step u) seg in
     let shape = logs.1.same_shape ∙ before.same_shape in
     let number = logs.1.number refl in

@@ -1,5 +1,6 @@
 use Rattle.std.proofs.Common.{◌<◌, ◌+◌, ◌*◌, ◌^◌, inl, inr, ◌≡◌, ℕ, true, false, sym, subst, arith}
 use Rattle.std.proofs.lemmas.Bool.{cases_eq}
+use Rattle.rb_base.specs.declared.sizes.TheConstants.{SLOTS}
 use Rattle.rb_base.specs.Logs.{no_logs}
 use Rattle.rb_restart.specs.Steps.{IsIdle}
 use Rattle.rb_restart.proofs.Joined.{none_rolls, rolls_joined, rolls_so}
@@ -9,7 +10,7 @@ pub loop-i-init : goal.loop-i-init
 loop-i-init g c =
     let old = c.args.store.now in
     record {
-      rolls = none_rolls g.S.Store c.args.shape old old 0 true (λ now. (j : ℕ) → j < 0 → IsIdle c.args.shape now (16 * c.args.seg + j)) (no_logs g.S.Store old c.requires.going) (λ told goes number rows may same j lt. absurd (omega (arith, lt)));
+      rolls = none_rolls g.S.Store c.args.shape old old 0 true (λ now. (j : ℕ) → j < 0 → IsIdle c.args.shape now (SLOTS * c.args.seg + j)) (no_logs g.S.Store old c.requires.going) (λ told goes number rows may same j lt. absurd (omega (arith, lt)));
     }
 
 pub returns-in_err-roll_back_slot : goal.returns-in_err-roll_back_slot
@@ -18,7 +19,7 @@ returns-in_err-roll_back_slot g c =
     let shape = c.args.shape in
     rw c.from_residual.ensures.0
     (rolls_joined g.S.Store shape c.args.store.now c.loop-i.store c.roll_back_slot.new.store (i * 2 ^ 32) (2 ^ 32) (2 ^ 36) false
-    (λ now. (j : ℕ) → j < i → IsIdle shape now (16 * c.args.seg + j)) (λ now. IsIdle shape now (16 * c.args.seg + i)) (λ now. (j : ℕ) → j < 16 → IsIdle shape now (16 * c.args.seg + j))
+    (λ now. (j : ℕ) → j < i → IsIdle shape now (SLOTS * c.args.seg + j)) (λ now. IsIdle shape now (SLOTS * c.args.seg + i)) (λ now. (j : ℕ) → j < SLOTS → IsIdle shape now (SLOTS * c.args.seg + j))
     (omega (arith, c.loop-i-test.true)) c.loop-i.invariant.rolls c.in_err-roll_back_slot.ensures
     (λ told goes number rows may idle first second. let clash : false ≡ true = goes in absurd cc))
 
@@ -30,16 +31,16 @@ loop-i-preserved g c =
     let new = c.roll_back_slot.new.store in
     record {
       rolls = rolls_joined s shape c.args.store.now c.loop-i.store new (i * 2 ^ 32) (2 ^ 32) ((i + 1) * 2 ^ 32) true
-          (λ now. (j : ℕ) → j < i → IsIdle shape now (16 * c.args.seg + j)) (λ now. IsIdle shape now (16 * c.args.seg + i)) (λ now. (j : ℕ) → j < i + 1 → IsIdle shape now (16 * c.args.seg + j))
+          (λ now. (j : ℕ) → j < i → IsIdle shape now (SLOTS * c.args.seg + j)) (λ now. IsIdle shape now (SLOTS * c.args.seg + i)) (λ now. (j : ℕ) → j < i + 1 → IsIdle shape now (SLOTS * c.args.seg + j))
           (omega arith) c.loop-i.invariant.rolls c.in_ok-roll_back_slot.ensures
           (λ told goes number rows may idle first second j lt. elim (cases_eq j i) [
-            | inl at ↦ subst (λ (z : ℕ). IsIdle shape (s.blocks new) (16 * c.args.seg + z)) (sym at) second
-            | inr ne ↦ idle (16 * c.args.seg + j) (omega (arith, lt, ne, c.loop-i-test.true, c.requires.there)) (first j (omega (arith, lt, ne)))
+            | inl at ↦ subst (λ (z : ℕ). IsIdle shape (s.blocks new) (SLOTS * c.args.seg + z)) (sym at) second
+            | inr ne ↦ idle (SLOTS * c.args.seg + j) (omega (arith, lt, ne, c.loop-i-test.true, c.requires.there)) (first j (omega (arith, lt, ne)))
           ]);
     }
 
 pub returns : goal.returns
 returns g c =
     let i = c.loop-i.i in
-    rolls_so g.S.Store c.args.shape c.args.store.now c.loop-i.store (i * 2 ^ 32) (2 ^ 36) (λ now. (j : ℕ) → j < i → IsIdle c.args.shape now (16 * c.args.seg + j)) (λ now. (j : ℕ) → j < 16 → IsIdle c.args.shape now (16 * c.args.seg + j))
+    rolls_so g.S.Store c.args.shape c.args.store.now c.loop-i.store (i * 2 ^ 32) (2 ^ 36) (λ now. (j : ℕ) → j < i → IsIdle c.args.shape now (SLOTS * c.args.seg + j)) (λ now. (j : ℕ) → j < SLOTS → IsIdle c.args.shape now (SLOTS * c.args.seg + j))
     (omega (arith, c.loop-i.auto.i-end)) c.loop-i.invariant.rolls (λ told done j lt. done j (omega (arith, lt, c.loop-i-test.false)))

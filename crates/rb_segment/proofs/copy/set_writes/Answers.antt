@@ -1,4 +1,5 @@
 use Rattle.std.proofs.Common.{refl, ap, ◌∙◌}
+use Rattle.rb_ring.specs.declared.extents.TheConstants.{WRITES_AT}
 use Rattle.byteorder.specs.Endian.{big_bytes}
 use Rattle.rb_segment.proofs.Parts.{set_over, writes_set}
 use Rattle.rb_segment.specs.Header.{header_of}
@@ -8,7 +9,7 @@ pub returns-clause-patch : goal.returns-clause-patch
 returns-clause-patch c = c.set.ensures.patch ∙ rw (c.number_bytes.ensures) refl
 
 pub returns-clause-copy : goal.returns-clause-copy
-returns-clause-copy c = set_over c.args.no 1320 (big_bytes 8 c.args.writes) c.args.header.now c.set.new.copy (c.set.ensures.copy ∙ rw (c.number_bytes.ensures) refl)
+returns-clause-copy c = set_over c.args.no WRITES_AT (big_bytes 8 c.args.writes) c.args.header.now c.set.new.copy (c.set.ensures.copy ∙ rw (c.number_bytes.ensures) refl)
 
 pub returns-clause-means : goal.returns-clause-means
 returns-clause-means c = ap header_of (c.set.ensures.copy ∙ rw (c.number_bytes.ensures) refl) ∙ writes_set c.args.header.now c.args.writes c.requires.header c.ranges.writes.fits

@@ -1,14 +1,15 @@
 use Rattle.std.proofs.Common.{◌≡◌, ◌<◌, ◌+◌, inl, inr, ℕ, List, [], length, set, slice_index, true, false, refl, sym, ap, ◌∙◌, arith}
 use Rattle.std.proofs.lemmas.Bool.{cases_eq}
 use Rattle.std.proofs.lemmas.List.{get_or-set_same, get_or-set_other, length-set}
+use Rattle.rb_base.specs.declared.sizes.TheConstants.{SLOTS}
 use Rattle.rb_base.specs.Logs.{more_logs}
 use Rattle.rb_base.specs.declared.shape.Shape.{Shape}
 use Rattle.rb_segment.specs.Segments.{wrap_at, wrap_in}
 use Rattle.rb_segment.proofs.headers.wraps_of.Goals as goal
 
 -- the wraps of one segment more
-wraps_more : (wraps : List (List ℕ)) (g : ℕ) (here : List ℕ) (at : ℕ → ℕ → ℕ) → g < length wraps → ((slot : ℕ) → slot < 16 → slice_index here slot ≡ at g slot) → ((seg slot : ℕ) → seg < g → slot < 16 → wrap_in wraps seg slot ≡ at seg slot)
-    → (seg slot : ℕ) → seg < g + 1 → slot < 16 → wrap_in (set wraps g here) seg slot ≡ at seg slot
+wraps_more : (wraps : List (List ℕ)) (g : ℕ) (here : List ℕ) (at : ℕ → ℕ → ℕ) → g < length wraps → ((slot : ℕ) → slot < SLOTS → slice_index here slot ≡ at g slot) → ((seg slot : ℕ) → seg < g → slot < SLOTS → wrap_in wraps seg slot ≡ at seg slot)
+    → (seg slot : ℕ) → seg < g + 1 → slot < SLOTS → wrap_in (set wraps g here) seg slot ≡ at seg slot
 wraps_more wraps g here at fits is below seg slot lt few = elim (cases_eq seg g) [
   | inl same ↦ ap (λ (k : ℕ). wrap_in (set wraps g here) k slot) same ∙ (ap (λ (l : List ℕ). slice_index l slot) (get_or-set_same wraps g here [] fits) ∙ (is slot few ∙ ap (λ (k : ℕ). at k slot) (sym same)))
   | inr ne ↦ ap (λ (l : List ℕ). slice_index l slot) (get_or-set_other wraps g seg here [] ne) ∙ below seg slot (omega (arith, lt, ne)) few

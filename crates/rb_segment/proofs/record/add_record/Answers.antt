@@ -1,5 +1,6 @@
 use Rattle.std.proofs.Common.{◌≡◌, ℕ, ◌<◌, ◌^◌, List, ◌++◌, ⊎_elim, refl, ap, sym, subst, ◌∙◌, arith}
 use Rattle.std.proofs.lemmas.List.{append_assoc}
+use Rattle.rb_ring.specs.declared.extents.TheConstants.{EXTENTS}
 use Rattle.rb_base.specs.Blocks.{shape_blocks, written_to}
 use Rattle.rb_base.specs.Groups.{Patch}
 use Rattle.rb_segment.proofs.Stamps.{written_on}
@@ -21,10 +22,10 @@ returns-clause-patches c =
     )
 
 -- the header with room for a record has the slots and the number of records of before, and a head that there is
-head_there : (block : ℕ) (h room : Header) (patches : List Patch) → h.head < 8 → HasTurned block h room patches → (room.head < 8) × (room.writes ≡ h.writes)
+head_there : (block : ℕ) (h room : Header) (patches : List Patch) → h.head < EXTENTS → HasTurned block h room patches → (room.head < EXTENTS) × (room.writes ≡ h.writes)
 head_there block h room patches few turned = ⊎_elim
-    (λ same. let r = sym same.1 in subst (λ (k : Header). (k.head < 8) × (k.writes ≡ h.writes)) r (few, refl))
-    (λ turn. let r = sym turn.2 in subst (λ (k : Header). (k.head < 8) × (k.writes ≡ h.writes)) r (turn.1.within, refl)) turned
+    (λ same. let r = sym same.1 in subst (λ (k : Header). (k.head < EXTENTS) × (k.writes ≡ h.writes)) r (few, refl))
+    (λ turn. let r = sym turn.2 in subst (λ (k : Header). (k.head < EXTENTS) × (k.writes ≡ h.writes)) r (turn.1.within, refl)) turned
 
 pub returns-clause-recorded : goal.returns-clause-recorded
 returns-clause-recorded c young =

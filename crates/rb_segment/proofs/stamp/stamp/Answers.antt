@@ -1,4 +1,5 @@
 use Rattle.std.proofs.Common.{◌≡◌, ap, sym, ◌∙◌, arith}
+use Rattle.rb_ring.specs.declared.extents.TheConstants.{EXTENTS}
 use Rattle.rb_segment.proofs.Stamps.{none_stamped, passed, joined, all_stamped}
 use Rattle.rb_ring.specs.Ring.{extent_at}
 use Rattle.rb_ring.specs.declared.extents.Extent.{Extent}
@@ -33,12 +34,12 @@ loop-e-preserved c =
     ]
 
 pub returns-clause-patches : goal.returns-clause-patches
-returns-clause-patches c = let all : c.loop-e.e ≡ 8 = omega (arith, c.loop-e-test.false, c.loop-e.auto.e-end) in let done = rw all at c.loop-e.invariant in done.patches
+returns-clause-patches c = let all : c.loop-e.e ≡ EXTENTS = omega (arith, c.loop-e-test.false, c.loop-e.auto.e-end) in let done = rw all at c.loop-e.invariant in done.patches
 
 pub returns-clause-copy : goal.returns-clause-copy
-returns-clause-copy c = let all : c.loop-e.e ≡ 8 = omega (arith, c.loop-e-test.false, c.loop-e.auto.e-end) in let done = rw all at c.loop-e.invariant in done.copy
+returns-clause-copy c = let all : c.loop-e.e ≡ EXTENTS = omega (arith, c.loop-e-test.false, c.loop-e.auto.e-end) in let done = rw all at c.loop-e.invariant in done.copy
 
 pub returns-clause-means : goal.returns-clause-means
 returns-clause-means c =
-    let all : c.loop-e.e ≡ 8 = omega (arith, c.loop-e-test.false, c.loop-e.auto.e-end) in
+    let all : c.loop-e.e ≡ EXTENTS = omega (arith, c.loop-e-test.false, c.loop-e.auto.e-end) in
     all_stamped c.args.block c.args.bits c.args.scn c.args.header.now c.args.group.now c.loop-e.header c.loop-e.group (rw all at c.loop-e.invariant)

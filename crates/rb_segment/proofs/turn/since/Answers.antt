@@ -1,4 +1,5 @@
 use Rattle.std.proofs.Common.{◌≡◌, ℕ, ◌-◌, min, ap, sym, ◌∙◌, arith}
+use Rattle.rb_base.specs.declared.sizes.TheConstants.{SLOTS}
 use Rattle.rb_segment.proofs.Oldest.{none_yet, passed, joined, start_fits, since_oldest}
 use Rattle.rb_txntable.specs.Slots.{slot_at}
 use Rattle.rb_txntable.specs.declared.slots.TableSlot.{TableSlot}
@@ -24,5 +25,5 @@ loop-i-preserved c =
 
 pub returns : goal.returns
 returns c i few active =
-    let all : c.loop-i.i ≡ 16 = omega (arith, c.loop-i-test.false, c.loop-i.auto.i-end) in
+    let all : c.loop-i.i ≡ SLOTS = omega (arith, c.loop-i-test.false, c.loop-i.auto.i-end) in
     since_oldest c.args.header.now c.loop-i.oldest c.saturating_sub.result (rw all at c.loop-i.invariant) (c.saturating_sub.ensures ∙ ap (λ (n : ℕ). n - c.loop-i.oldest) c.writes.ensures) i few active

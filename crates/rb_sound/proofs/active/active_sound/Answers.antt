@@ -2,7 +2,7 @@ use Rattle.std.proofs.Common.{◌≡◌, ◌<◌, ℕ, List, [], true, false, re
 use borrow.Author.Count.{below_more}
 use Rattle.rb_base.specs.Logs.{more_logs}
 use Rattle.rb_base.specs.declared.shape.Shape.{Shape}
-use Rattle.rb_base.specs.declared.sizes.TheConstants.{ACTIVE}
+use Rattle.rb_base.specs.declared.sizes.TheConstants.{ACTIVE, SLOTS}
 use Rattle.rb_segment.specs.Header.{segment_of, slot_in}
 use Rattle.rb_sound.specs.Active.{Fits, IsActive}
 use Rattle.rb_undoblock.specs.declared.record.UndoRecord.{UndoRecord}
@@ -10,7 +10,7 @@ use Rattle.rb_sound.proofs.active.active_sound.Goals as goal
 
 -- each Active slot of segment k has its live records
 abbrev IsSoundAt : (UndoRecord → Type 0) → Shape → List (List ℕ) → ℕ → Type 0
-IsSoundAt Kept shape blocks k = (i : ℕ) → i < 16 → (slot_in (segment_of shape blocks k).header i).state ≡ ACTIVE → IsActive Kept shape k (segment_of shape blocks k) i
+IsSoundAt Kept shape blocks k = (i : ℕ) → i < SLOTS → (slot_in (segment_of shape blocks k).header i).state ≡ ACTIVE → IsActive Kept shape k (segment_of shape blocks k) i
 
 pub returns-in_err-slots_sound-clause-logs : goal.returns-in_err-slots_sound-clause-logs
 returns-in_err-slots_sound-clause-logs g c =

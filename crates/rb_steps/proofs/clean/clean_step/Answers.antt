@@ -1,6 +1,7 @@
 use Rattle.std.proofs.Common.{◌≡◌, ◌<◌, ◌+◌, ◌^◌, ◌∷◌, inl, ℕ, not, List, [], refl, sym, ◌∙◌, ap, subst, arith}
 use Rattle.std.proofs.lemmas.Result.{on_ok_weaker}
 use Rattle.std.specs.Result.{is_err}
+use Rattle.rb_base.specs.declared.sizes.TheConstants.{WORN}
 use Rattle.rb_base.proofs.Each.{all_so}
 use Rattle.rb_base.specs.Blocks.{after_group, block_of, shape_blocks, table_blocks}
 use Rattle.rb_base.specs.Groups.{Patch}

@@ -1,5 +1,6 @@
 use Rattle.std.proofs.Common.{◌≡◌, ◌<◌, ℕ, List, [], true, not, Err, refl, ap, ◌∙◌, arith}
 use Rattle.std.proofs.lemmas.Result.{err_from_is_err_and}
+use Rattle.rb_base.specs.declared.sizes.TheConstants.{SLOTS}
 use Rattle.rb_base.specs.Logs.{more_logs}
 use Rattle.rb_base.specs.declared.ids.Xid.{Xid}
 use Rattle.rb_base.specs.declared.shape.Shape.{Shape}
@@ -18,7 +19,7 @@ returns-then-not-is_idle-clause-failed g c told may =
     let seg = c.in-Ok.seg in
     let shape = s.shape_of old in
     let logs = c.in-Ok.ensures.logs in
-    let few : run_in shape (s.blocks old) seg < 16 = idle_in shape (s.blocks old) seg (c.in-Ok.ensures.fewest told) (may.slot refl) in
+    let few : run_in shape (s.blocks old) seg < SLOTS = idle_in shape (s.blocks old) seg (c.in-Ok.ensures.fewest told) (may.slot refl) in
     let same : active_count c.load_header.new.header ≡ run_in shape (s.blocks old) seg = ap active_count (c.in_ok-load_header.ensures.copy told)
     ∙ ap (λ (k : Shape). run_in k (s.blocks mid) seg) logs.same_shape
     ∙ ap (λ (l : List (List ℕ)). run_in shape l seg) (logs.blocks told refl) in
