@@ -1,12 +1,16 @@
 //! Cursors opened and closed: calls of memory alone. `Engine::open_cursor` and `Engine::close_cursor` call it.
-ghost use Rattle.std.specs.Prelude.{◌≡◌, ◌≢◌, ℕ, IfErr};
-ghost use Rattle.rb_engine.specs.Does.{Does, IsInStep, Stands};
+ghost use Rattle.std.specs.Prelude.{◌≡◌, ◌≢◌, ℕ, IfErr, false};
+ghost use Rattle.rb_engine.specs.Does.{Does, IsInStep, Stands, SameStore};
 ghost use Rattle.rb_model.specs.Answers.{plain_answer};
 ghost use Rattle.rb_model.specs.Calls as machine;
 ghost use Rattle.rb_model.specs.Names.{name_text};
 ghost use Rattle.rb_model.specs.State.{State};
+ghost use Rattle.rb_base.specs.Counts.{IsCountedAs, err_is};
+ghost use Rattle.rb_engine.specs.Makes.{Makes};
+ghost use Rattle.rb_model.specs.Calls.{is_disk_fault};
 
 use crate::checks::{check_session, check_table};
+use crate::engine::Engine;
 use crate::memory::Memory;
 use rb_base::Store;
 use rb_model::{Name, Refusal};
@@ -75,4 +79,45 @@ pub fn do_close_cursor<T: Store>(
     }
     memory.sessions.close_cursor(s, name);
     Ok(())
+}
+
+impl<T: Store> Engine<T> {
+    /// Opens a cursor over the rows as the session sees them now, or as its transaction does whose mode has a snapshot.
+    pub fn open_cursor(
+        &mut self,
+        s: u16,
+        name: &Name,
+        table: u16,
+        lo: u64,
+        hi: u64,
+    ) -> Result<(), Refusal>
+        ensures did { (h : State) → Stands T.Store h self.old → Does T.Store h
+            (machine.OpenCursor s (name_text name.now) table lo hi) (plain_answer result) self.old self.new }
+        ensures holds_back { err_is is_disk_fault result ≡ false
+            → T.holds_back self.old.store self.new.store }
+        ensures makes { (h : State) → Stands T.Store h self.old → err_is is_disk_fault result ≡ false
+            → Makes h (machine.OpenCursor s (name_text name.now) table lo hi) (plain_answer result)
+            (T.lsn self.new.store) (T.blocks self.old.store) (T.blocks self.new.store) }
+        ensures same { SameStore T.Store self.old.store self.new.store }
+        ensures disk { IsCountedAs (T.faults self.old.store) (T.faults self.new.store)
+            (err_is is_disk_fault result) }
+    {
+        do_open_cursor(&mut self.memory, &self.store, s, name, table, lo, hi)
+    }
+
+    /// Closes the session's cursor of a name.
+    pub fn close_cursor(&mut self, s: u16, name: &Name) -> Result<(), Refusal>
+        ensures did { (h : State) → Stands T.Store h self.old → Does T.Store h
+            (machine.CloseCursor s (name_text name.now)) (plain_answer result) self.old self.new }
+        ensures holds_back { err_is is_disk_fault result ≡ false
+            → T.holds_back self.old.store self.new.store }
+        ensures makes { (h : State) → Stands T.Store h self.old → err_is is_disk_fault result ≡ false
+            → Makes h (machine.CloseCursor s (name_text name.now)) (plain_answer result)
+            (T.lsn self.new.store) (T.blocks self.old.store) (T.blocks self.new.store) }
+        ensures same { SameStore T.Store self.old.store self.new.store }
+        ensures disk { IsCountedAs (T.faults self.old.store) (T.faults self.new.store)
+            (err_is is_disk_fault result) }
+    {
+        do_close_cursor(&mut self.memory, &self.store, s, name)
+    }
 }

@@ -11,8 +11,10 @@ ghost use Rattle.rb_model.specs.Calls.{is_disk_fault};
 ghost use Rattle.rb_model.specs.Calls as machine;
 ghost use Rattle.rb_model.specs.Names.{name_text};
 ghost use Rattle.rb_model.specs.State.{State};
+ghost use Rattle.law_crash.specs.Made.{TellsLooks};
 
 use crate::checks::check_session;
+use crate::engine::Engine;
 use crate::memory::Memory;
 use crate::scan::next_row;
 use rb_base::Store;
@@ -63,5 +65,44 @@ pub fn do_fetch<T: Store>(
         Ok(Fetched::End) => Ok(Fetched::End),
         Err(CrFault::TooOld { scn, lost }) => Err(Refusal::TooOld { scn, lost }),
         Err(CrFault::Failed) => Err(memory.fail()),
+    }
+}
+
+impl<T: Store> Engine<T> {
+    /// Gives the next row of a cursor into `row`, or the end. It takes no lock and waits for nobody. Where what its
+    /// snapshot needs was given up, it may be refused as `TooOld`, and may be tried again: the first home that may have
+    /// the next row can't be read then. Each home that it reads is cleaned of transactions that have ended, by a group
+    /// that waits, unless the log is worn out: later readers and writers find the numbers of these in the block, also
+    /// where the segments have forgotten them. No row changes by it. (The delayed cleanout of Oracle7.)
+    pub fn fetch(&mut self, s: u16, name: &Name, row: &mut Row) -> Result<Fetched, Refusal>
+        ensures did { (h : State) → Stands T.Store h self.old → Does T.Store h
+            (machine.Fetch s (name_text name.now)) (fetch_answer result row.new) self.old self.new }
+        ensures makes { (h : State) → Stands T.Store h self.old → err_is is_disk_fault result ≡ false
+            → Makes h (machine.Fetch s (name_text name.now)) (fetch_answer result row.new)
+            (T.lsn self.new.store) (T.blocks self.old.store) (T.blocks self.new.store) }
+        ensures lost { (h : State) → Stands T.Store h self.old → (scn lost : ℕ)
+            → result ≡ Err (Refusal.TooOld scn lost)
+            → NeedsLost T.Store h self.old s (name_text name.now) scn lost }
+        ensures cleans { (h : State) → Stands T.Store h self.old → HasLooked result
+            → CleansRead T.Store h self.old s (name_text name.now) (is_err result ≡ false) self.new.store }
+        ensures idle { (HasLooked result → ⊥) → err_is is_disk_fault result ≡ false
+            → self.new.store ≡ self.old.store }
+        ensures tells { (h : State) → Stands T.Store h self.old → err_is is_disk_fault result ≡ false
+            → TellsLooks h.shape (T.blocks self.old.store) (T.blocks self.new.store) }
+        ensures row { LeavesRow result row.old row.new }
+        ensures holds_back { err_is is_disk_fault result ≡ false
+            → T.holds_back self.old.store self.new.store }
+        ensures same { SameStore T.Store self.old.store self.new.store }
+        ensures disk { IsCountedAs (T.faults self.old.store) (T.faults self.new.store)
+            (err_is is_disk_fault result) }
+    {
+        do_fetch(
+            &mut self.memory,
+            &mut self.scratch,
+            &mut self.store,
+            s,
+            name,
+            row,
+        )
     }
 }

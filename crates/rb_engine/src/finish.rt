@@ -22,6 +22,7 @@ ghost use Rattle.law_blocks.specs.Standing.{env_of};
 ghost use Rattle.law_write.specs.Verdict.{IsOwnId};
 
 use crate::checks::check_session;
+use crate::engine::Engine;
 use crate::memory::Memory;
 use rb_base::{Failed, Group, SLOTS, Scn, Store, Xid};
 use rb_model::Refusal;
@@ -263,5 +264,41 @@ pub fn do_rollback<T: Store>(memory: &mut Memory, store: &mut T, s: u16) -> Resu
             memory.waits.free(s);
             Ok(())
         }
+    }
+}
+
+impl<T: Store> Engine<T> {
+    /// Makes the session's changes one more commit, which is in the file in every image once its number is answered.
+    /// Without changes it answers None. No block of rows is written: what a commit makes true stands in a header.
+    pub fn commit(&mut self, s: u16) -> Result<Option<u64>, Refusal>
+        ensures did { (h : State) → Stands T.Store h self.old → Does T.Store h
+            (machine.Commit s) (commit_answer result) self.old self.new }
+        ensures makes { (h : State) → Stands T.Store h self.old → err_is is_disk_fault result ≡ false
+            → Makes h (machine.Commit s) (commit_answer result)
+            (T.lsn self.new.store) (T.blocks self.old.store) (T.blocks self.new.store) }
+        ensures rows { (h : State) → Stands T.Store h self.old
+            → OnOk result (KeepsRows h.shape (T.blocks self.old.store) (T.blocks self.new.store)) }
+        ensures holds_back { HasNoNumber result → T.holds_back self.old.store self.new.store }
+        ensures same { SameStore T.Store self.old.store self.new.store }
+        ensures disk { IsCountedAs (T.faults self.old.store) (T.faults self.new.store)
+            (err_is is_disk_fault result) }
+    {
+        do_commit(&mut self.memory, &mut self.store, s)
+    }
+
+    /// Puts back all changes of the session's transaction, one by one, closes the cursors that saw them, and ends it.
+    pub fn rollback(&mut self, s: u16) -> Result<(), Refusal>
+        ensures did { (h : State) → Stands T.Store h self.old → Does T.Store h
+            (machine.Rollback s) (plain_answer result) self.old self.new }
+        ensures holds_back { err_is is_disk_fault result ≡ false
+            → T.holds_back self.old.store self.new.store }
+        ensures makes { (h : State) → Stands T.Store h self.old → err_is is_disk_fault result ≡ false
+            → Makes h (machine.Rollback s) (plain_answer result)
+            (T.lsn self.new.store) (T.blocks self.old.store) (T.blocks self.new.store) }
+        ensures same { SameStore T.Store self.old.store self.new.store }
+        ensures disk { IsCountedAs (T.faults self.old.store) (T.faults self.new.store)
+            (err_is is_disk_fault result) }
+    {
+        do_rollback(&mut self.memory, &mut self.store, s)
     }
 }

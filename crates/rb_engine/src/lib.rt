@@ -2,7 +2,6 @@
 //! roll back, also to a savepoint, and read by cursors, each in its mode. The shell runs the lines of a script by it.
 #![tactic(auto)]
 
-mod calls;
 mod checks;
 mod cursors;
 mod engine;

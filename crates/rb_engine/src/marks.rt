@@ -6,7 +6,9 @@ ghost use Rattle.rb_model.specs.Answers.{marks_answer, plain_answer};
 ghost use Rattle.rb_model.specs.Calls.{is_disk_fault};
 ghost use Rattle.rb_model.specs.Calls as machine;
 ghost use Rattle.rb_model.specs.State.{State};
+ghost use Rattle.rb_engine.specs.Makes.{Makes};
 
+use crate::engine::Engine;
 use crate::memory::Memory;
 use rb_base::Store;
 use rb_model::{Marks, Refusal};
@@ -59,5 +61,42 @@ pub fn do_checkpoint<T: Store>(memory: &mut Memory, store: &mut T) -> Result<(),
     match store.checkpoint() {
         Ok(()) => Ok(()),
         Err(_) => Err(memory.fail()),
+    }
+}
+
+impl<T: Store> Engine<T> {
+    /// What segment `seg` has made and given up.
+    pub fn marks(&mut self, seg: u16) -> Result<Marks, Refusal>
+        requires { seg < (T.shape_of self.old.store).segments }
+        ensures did { (h : State) → Stands T.Store h self.old → Does T.Store h
+            (machine.Marks seg) (marks_answer seg result) self.old self.new }
+        ensures holds_back { err_is is_disk_fault result ≡ false
+            → T.holds_back self.old.store self.new.store }
+        ensures makes { (h : State) → Stands T.Store h self.old → err_is is_disk_fault result ≡ false
+            → Makes h (machine.Marks seg) (marks_answer seg result)
+            (T.lsn self.new.store) (T.blocks self.old.store) (T.blocks self.new.store) }
+        ensures same { SameStore T.Store self.old.store self.new.store }
+        ensures disk { IsCountedAs (T.faults self.old.store) (T.faults self.new.store)
+            (err_is is_disk_fault result) }
+    {
+        do_marks(&mut self.memory, &mut self.store, seg)
+    }
+
+    /// Makes all that was done last, also what isn't committed yet: a restart finds it and puts it back. Whatever it
+    /// answers, a crash in it or after it leaves the state.
+    pub fn checkpoint(&mut self) -> Result<(), Refusal>
+        ensures did { (h : State) → Stands T.Store h self.old → Does T.Store h
+            machine.Checkpoint (plain_answer result) self.old self.new }
+        ensures makes { (h : State) → Stands T.Store h self.old → err_is is_disk_fault result ≡ false
+            → Makes h machine.Checkpoint (plain_answer result)
+            (T.lsn self.new.store) (T.blocks self.old.store) (T.blocks self.new.store) }
+        ensures leaves { (h : State) → Stands T.Store h self.old → h.stopped ≡ false
+            → LeavesState T.Store h self.old.store self.new.store }
+        ensures nothing_waits { T.keeps → OnOk result (T.pending self.new.store ≡ []) }
+        ensures same { SameStore T.Store self.old.store self.new.store }
+        ensures disk { IsCountedAs (T.faults self.old.store) (T.faults self.new.store)
+            (err_is is_disk_fault result) }
+    {
+        do_checkpoint(&mut self.memory, &mut self.store)
     }
 }

@@ -1,14 +1,18 @@
 //! Sessions that wait: how one begins to, and how one gives up. A write calls the first, `Engine::cancel` the second.
 ghost use Rattle.std.specs.Prelude.{◌≡◌, ◌≢◌, ◌≤◌, true, false, IfErr, IfOk};
 ghost use Rattle.rb_engine.specs.Checks.{NotOld};
-ghost use Rattle.rb_engine.specs.Does.{Does, IsInStep, IsQueue, Stands};
+ghost use Rattle.rb_engine.specs.Does.{Does, IsInStep, IsQueue, Stands, SameStore};
 ghost use Rattle.rb_model.specs.Answers.{plain_answer};
 ghost use Rattle.rb_model.specs.Calls as machine;
 ghost use Rattle.rb_model.specs.Queue.{closes, is_queued, waiting};
 ghost use Rattle.rb_model.specs.State.{State};
 ghost use Rattle.rb_sessions.specs.Kept.{asked_of_pending, holding, kept_at, with_kept};
+ghost use Rattle.rb_base.specs.Counts.{IsCountedAs, err_is};
+ghost use Rattle.rb_engine.specs.Makes.{Makes};
+ghost use Rattle.rb_model.specs.Calls.{is_disk_fault};
 
 use crate::checks::check_number;
+use crate::engine::Engine;
 use crate::memory::Memory;
 use rb_base::Store;
 use rb_model::{Refusal, Wrote};
@@ -53,4 +57,22 @@ pub fn do_cancel<T: Store>(memory: &mut Memory, store: &T, s: u16) -> Result<(),
     }
     memory.waits.leave(s);
     Ok(())
+}
+
+impl<T: Store> Engine<T> {
+    /// Takes a session that waits, or is ready, out of the queue: its write is given up, and its transaction goes on.
+    pub fn cancel(&mut self, s: u16) -> Result<(), Refusal>
+        ensures did { (h : State) → Stands T.Store h self.old → Does T.Store h
+            (machine.Cancel s) (plain_answer result) self.old self.new }
+        ensures holds_back { err_is is_disk_fault result ≡ false
+            → T.holds_back self.old.store self.new.store }
+        ensures makes { (h : State) → Stands T.Store h self.old → err_is is_disk_fault result ≡ false
+            → Makes h (machine.Cancel s) (plain_answer result)
+            (T.lsn self.new.store) (T.blocks self.old.store) (T.blocks self.new.store) }
+        ensures same { SameStore T.Store self.old.store self.new.store }
+        ensures disk { IsCountedAs (T.faults self.old.store) (T.faults self.new.store)
+            (err_is is_disk_fault result) }
+    {
+        do_cancel(&mut self.memory, &self.store, s)
+    }
 }

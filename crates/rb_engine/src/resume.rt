@@ -1,5 +1,5 @@
 //! A write of a session that had to wait, tried again. `Engine::resume` calls it.
-ghost use Rattle.std.specs.Prelude.{◌≡◌, ◌<◌, ℕ, false, None, Some, Err, IfSome};
+ghost use Rattle.std.specs.Prelude.{◌≤◌, ◌≡◌, ◌<◌, ℕ, false, None, Some, Err, IfSome};
 ghost use Rattle.rb_base.specs.Counts.{IsCountedAs};
 ghost use Rattle.rb_engine.specs.Does.{IsInStep, Resumes, SameStore, Stands, resume_fault};
 ghost use Rattle.rb_engine.specs.Lateness.{ResumeNeedsLost};
@@ -7,7 +7,9 @@ ghost use Rattle.rb_engine.specs.Makes.{ResumeMakes};
 ghost use Rattle.law_crash.specs.Made.{TellsLooks};
 ghost use Rattle.rb_model.specs.Queue.{first_ready, ready_count};
 ghost use Rattle.rb_model.specs.State.{State};
+ghost use Rattle.rb_sessions.specs.declared.sessions.TheConstants.{SESSIONS};
 
+use crate::engine::Engine;
 use crate::memory::Memory;
 use crate::write::do_write;
 use rb_base::Store;
@@ -58,4 +60,28 @@ pub fn do_resume<T: Store>(
         pending.op(),
     );
     Some((s, outcome))
+}
+
+impl<T: Store> Engine<T> {
+    /// Tries the write of the ready session that came first once more, and tells whose it is and what it answers. Each
+    /// session that waited for one whose transaction has ended is ready. The session leaves the queue; where it has to
+    /// wait again, it does so behind all others. None where no session is ready, and of a stopped engine.
+    pub fn resume(&mut self) -> Option<(u16, Result<Wrote, Refusal>)>
+        ensures did { (h : State) → Stands T.Store h self.old → Resumes T.Store h result self.old self.new }
+        ensures makes { (h : State) → Stands T.Store h self.old → resume_fault result ≡ false
+            → ResumeMakes h result (T.lsn self.new.store)
+            (T.blocks self.old.store) (T.blocks self.new.store) }
+        ensures lost { (h : State) → Stands T.Store h self.old → (s scn lost : ℕ)
+            → result ≡ Some (s, Err (Refusal.TooOld scn lost)) → ResumeNeedsLost T.Store h self.old s scn lost }
+        ensures tells { (h : State) → Stands T.Store h self.old → resume_fault result ≡ false
+            → TellsLooks h.shape (T.blocks self.old.store) (T.blocks self.new.store) }
+        ensures fewer { IfSome result (λ r. ready_count self.new.memory.waits < ready_count self.old.memory.waits) }
+        ensures few { ready_count self.old.memory.waits ≤ SESSIONS }
+        ensures idle { first_ready self.old.memory.waits ≡ None → (result ≡ None) × (self.new ≡ self.old) }
+        ensures holds_back { resume_fault result ≡ false → T.holds_back self.old.store self.new.store }
+        ensures same { SameStore T.Store self.old.store self.new.store }
+        ensures disk { IsCountedAs (T.faults self.old.store) (T.faults self.new.store) (resume_fault result) }
+    {
+        do_resume(&mut self.memory, &mut self.scratch, &mut self.store)
+    }
 }

@@ -12,6 +12,7 @@ ghost use Rattle.rb_model.specs.State.{State, savepoint_named};
 ghost use Rattle.rb_sessions.specs.Kept.{kept_at, kept_by};
 
 use crate::checks::check_session;
+use crate::engine::Engine;
 use crate::finish::put_back;
 use crate::memory::Memory;
 use rb_base::{Group, Store, Xid};
@@ -110,5 +111,41 @@ pub fn do_rollback_to<T: Store>(
             memory.sessions.rollback_to(s, name);
             Ok(())
         }
+    }
+}
+
+impl<T: Store> Engine<T> {
+    /// Marks the present place in the session's live changes. A name that is set again moves there. (Oracle7 Server
+    /// Concepts, *Transaction Management*.)
+    pub fn savepoint(&mut self, s: u16, name: &Name) -> Result<(), Refusal>
+        ensures did { (h : State) → Stands T.Store h self.old → Does T.Store h
+            (machine.SetSavepoint s (name_text name.now)) (plain_answer result) self.old self.new }
+        ensures holds_back { err_is is_disk_fault result ≡ false
+            → T.holds_back self.old.store self.new.store }
+        ensures makes { (h : State) → Stands T.Store h self.old → err_is is_disk_fault result ≡ false
+            → Makes h (machine.SetSavepoint s (name_text name.now)) (plain_answer result)
+            (T.lsn self.new.store) (T.blocks self.old.store) (T.blocks self.new.store) }
+        ensures same { SameStore T.Store self.old.store self.new.store }
+        ensures disk { IsCountedAs (T.faults self.old.store) (T.faults self.new.store)
+            (err_is is_disk_fault result) }
+    {
+        do_savepoint(&mut self.memory, &self.store, s, name)
+    }
+
+    /// Puts back the session's changes behind a savepoint, one by one: the rows that they alone held are free at once.
+    /// It erases the later savepoints, and closes the cursors that saw one of those changes. The transaction goes on.
+    pub fn rollback_to(&mut self, s: u16, name: &Name) -> Result<(), Refusal>
+        ensures did { (h : State) → Stands T.Store h self.old → Does T.Store h
+            (machine.RollbackTo s (name_text name.now)) (plain_answer result) self.old self.new }
+        ensures holds_back { err_is is_disk_fault result ≡ false
+            → T.holds_back self.old.store self.new.store }
+        ensures makes { (h : State) → Stands T.Store h self.old → err_is is_disk_fault result ≡ false
+            → Makes h (machine.RollbackTo s (name_text name.now)) (plain_answer result)
+            (T.lsn self.new.store) (T.blocks self.old.store) (T.blocks self.new.store) }
+        ensures same { SameStore T.Store self.old.store self.new.store }
+        ensures disk { IsCountedAs (T.faults self.old.store) (T.faults self.new.store)
+            (err_is is_disk_fault result) }
+    {
+        do_rollback_to(&mut self.memory, &mut self.store, s, name)
     }
 }

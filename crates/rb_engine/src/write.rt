@@ -9,7 +9,7 @@ ghost use Rattle.rb_engine.specs.Lateness.{WriteNeedsLost};
 ghost use Rattle.rb_engine.specs.Makes.{Makes};
 ghost use Rattle.rb_engine.specs.Scanning.{OtherHolds};
 ghost use Rattle.law_crash.specs.Made.{TellsLooks};
-ghost use Rattle.rb_model.specs.Answers.{action_by, write_answer};
+ghost use Rattle.rb_model.specs.Answers.{action_by, write_answer, action_of};
 ghost use Rattle.rb_model.specs.Calls.{is_disk_fault};
 ghost use Rattle.rb_model.specs.Calls as machine;
 ghost use Rattle.rb_model.specs.Queue.{ready_count};
@@ -20,6 +20,7 @@ ghost use Rattle.rb_steps.specs.Steps.{refusal_of};
 ghost use Rattle.law_sessions.specs.Views.{Remembers};
 
 use crate::checks::check_write;
+use crate::engine::Engine;
 use crate::late::check_late;
 use crate::memory::Memory;
 use crate::queue::wait_for;
@@ -117,11 +118,77 @@ pub fn do_write<T: Store>(
         key,
         op,
     };
-    match write_step(store, &ask, &mut Group::new()) {
+    let mut group = Group::new();
+    match write_step(store, &ask, &mut group) {
         Ok(xid) => {
             memory.sessions.wrote(s, xid);
             Ok(Wrote::Done)
         }
         Err(fault) => Err(refusal(memory, fault)),
+    }
+}
+
+impl<T: Store> Engine<T> {
+    /// Inserts, updates or deletes the row of a key. Where another session holds the key, the answer is `Waits`, and
+    /// the session waits until that one's transaction ends: then `resume` tries the write again. It may be refused, and
+    /// then nothing is changed, unless a call of the store failed; where it would wait in a ring it is refused with
+    /// `Deadlock`. A serializable transaction is refused with `CantSerialize` where a commit above its snapshot has
+    /// changed the row, and may be with `TooOld` where that can't be told any more. A write that is done cleans the
+    /// row's block of transactions that have ended: their slot entries tell what the headers said of them as the call
+    /// began. (Oracle7 Server Concepts, *Transaction Management* and *Data Concurrency*.)
+    pub fn write(&mut self, s: u16, table: u16, key: u64, op: Op<'_>) -> Result<Wrote, Refusal>
+        ensures did { (h : State) → Stands T.Store h self.old → Does T.Store h
+            (machine.Write s table key (action_of op.entry)) (write_answer result) self.old self.new }
+        ensures makes { (h : State) → Stands T.Store h self.old → err_is is_disk_fault result ≡ false
+            → Makes h (machine.Write s table key (action_of op.entry)) (write_answer result)
+            (T.lsn self.new.store) (T.blocks self.old.store) (T.blocks self.new.store) }
+        ensures lost { (h : State) → Stands T.Store h self.old → (scn lost : ℕ)
+            → result ≡ Err (Refusal.TooOld scn lost) → WriteNeedsLost T.Store h self.old s table key scn lost }
+        ensures tells { (h : State) → Stands T.Store h self.old → err_is is_disk_fault result ≡ false
+            → TellsLooks h.shape (T.blocks self.old.store) (T.blocks self.new.store) }
+        ensures holds_back { err_is is_disk_fault result ≡ false
+            → T.holds_back self.old.store self.new.store }
+        ensures same { SameStore T.Store self.old.store self.new.store }
+        ensures disk { IsCountedAs (T.faults self.old.store) (T.faults self.new.store)
+            (err_is is_disk_fault result) }
+    {
+        do_write(
+            &mut self.memory,
+            &mut self.scratch,
+            &mut self.store,
+            s,
+            table,
+            key,
+            Some(op),
+        )
+    }
+
+    /// Holds the row of a key as it is, for the session's transaction: a write that changes no row. It answers as
+    /// `write`.
+    pub fn lock(&mut self, s: u16, table: u16, key: u64) -> Result<Wrote, Refusal>
+        ensures did { (h : State) → Stands T.Store h self.old → Does T.Store h
+            (machine.Write s table key machine.Lock) (write_answer result) self.old self.new }
+        ensures makes { (h : State) → Stands T.Store h self.old → err_is is_disk_fault result ≡ false
+            → Makes h (machine.Write s table key machine.Lock) (write_answer result)
+            (T.lsn self.new.store) (T.blocks self.old.store) (T.blocks self.new.store) }
+        ensures lost { (h : State) → Stands T.Store h self.old → (scn lost : ℕ)
+            → result ≡ Err (Refusal.TooOld scn lost) → WriteNeedsLost T.Store h self.old s table key scn lost }
+        ensures tells { (h : State) → Stands T.Store h self.old → err_is is_disk_fault result ≡ false
+            → TellsLooks h.shape (T.blocks self.old.store) (T.blocks self.new.store) }
+        ensures holds_back { err_is is_disk_fault result ≡ false
+            → T.holds_back self.old.store self.new.store }
+        ensures same { SameStore T.Store self.old.store self.new.store }
+        ensures disk { IsCountedAs (T.faults self.old.store) (T.faults self.new.store)
+            (err_is is_disk_fault result) }
+    {
+        do_write(
+            &mut self.memory,
+            &mut self.scratch,
+            &mut self.store,
+            s,
+            table,
+            key,
+            None,
+        )
     }
 }
