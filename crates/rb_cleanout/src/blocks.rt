@@ -17,13 +17,14 @@ ghost use Rattle.rb_txntable.specs.declared.looks.Look.{Look};
 use crate::entries::clean_entries;
 use crate::locks::clear_locks;
 use rb_base::{BlockNo, Failed, GROUP_BYTES, GROUP_PATCHES, Group, Store, UNIT};
-use rb_itl::{ENTRIES, OPEN, entry};
+use rb_cell::CELLS;
+use rb_itl::{ENTRIES, ENTRY_BYTES, OPEN, entry};
 
 /// The most patches that a cleaning adds to a group: one for each entry and one for each lock.
-pub const CLEAN_PATCHES: usize = 8 + 16;
+pub const CLEAN_PATCHES: usize = ENTRIES as usize + CELLS as usize;
 
 /// The most bytes that they take there.
-pub const CLEAN_BYTES: usize = 8 * (8 + 48) + 16 * (8 + 1);
+pub const CLEAN_BYTES: usize = ENTRIES as usize * (8 + ENTRY_BYTES) + CELLS as usize * (8 + 1);
 
 /// Cleans a copy of block `no`, which is one of rows: each Open entry whose transaction has ended becomes Exact where
 /// its number is known and else Bound, the locks that name these entries are cleared, and all else stays. The group has

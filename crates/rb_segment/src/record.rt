@@ -22,10 +22,10 @@ use rb_txntable::{TableSlot, slot_at};
 use rb_undoblock::{UNDO_BYTES, UNDO_RECORDS, UndoRecord, undo_bytes, undo_place};
 
 /// The bytes that the patches of a turn take in a group.
-pub const TURN_BYTES: usize = 24 + 12 + 16;
+pub const TURN_BYTES: usize = (8 + 16) + (8 + 4) + (8 + 8);
 
 /// The bytes that the patches of a record take in a group, behind those of a turn.
-pub const RECORD_BYTES: usize = (8 + SLOT_BYTES) + 12 + 16 + (8 + UNDO_BYTES);
+pub const RECORD_BYTES: usize = (8 + SLOT_BYTES) + (8 + 4) + (8 + 8) + (8 + UNDO_BYTES);
 
 /// The address of the next record of the head, which has room. `block` is the header's.
 fn next_address(header: &[u8], block: BlockNo) -> Uba

@@ -1,4 +1,7 @@
-use Rattle.std.proofs.Common.{arith}
+use Rattle.std.proofs.Common.{arith, ◌+◌, ◌*◌}
+use Rattle.rb_itl.specs.declared.slots.TheConstants.{ENTRIES, ENTRY_BYTES}
+use Rattle.rb_cleanout.specs.declared.blocks.TheConstants.{CLEAN_BYTES, CLEAN_PATCHES}
+use Rattle.rb_cell.specs.declared.cell.TheConstants.{CELLS}
 use Rattle.rb_cleanout.proofs.Cleaning.{all_cleaned}
 use Rattle.rb_cleanout.proofs.Copies.{more_cleans}
 use Rattle.rb_cleanout.proofs.Looking.{looks}
@@ -10,7 +13,7 @@ pub returns-clause-patches : goal.returns-clause-patches
 returns-clause-patches g c =
     let mid = c.clean_entries.new in
     let now = c.clear_locks.new in
-    let made = more_cleans c.args.no c.args.copy.now mid.copy now.copy c.args.group.now mid.group now.group 8 448 16 144 24 592 c.clean_entries.ensures.made c.clear_locks.ensures.made (omega arith) (omega arith) in
+    let made = more_cleans c.args.no c.args.copy.now mid.copy now.copy c.args.group.now mid.group now.group ENTRIES (ENTRIES * (8 + ENTRY_BYTES)) CELLS (CELLS * (8 + 1)) CLEAN_PATCHES CLEAN_BYTES c.clean_entries.ensures.made c.clear_locks.ensures.made (omega arith) (omega arith) in
     (made.patches, made.same, made.each)
 
 pub returns-clause-cleaned : goal.returns-clause-cleaned

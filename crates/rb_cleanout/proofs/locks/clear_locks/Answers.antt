@@ -25,13 +25,13 @@ loop-c-preserved c =
           let means = ap home_of set ∙ lock_written copy at 0 so_far.long c.loop-c-test.true in
           rw (w.copy-is, w.group-is) (record {
             long = w.set.ensures.length;
-            made = more_cleans c.args.no c.args.copy.now copy w.set.new.copy c.args.group.now c.loop-c.group w.set.new.group at (at * 9) 1 9 (at + 1) ((at + 1) * 9) so_far.made one (omega arith) (omega arith);
+            made = more_cleans c.args.no c.args.copy.now copy w.set.new.copy c.args.group.now c.loop-c.group w.set.new.group at (at * (8 + 1)) 1 (8 + 1) (at + 1) ((at + 1) * (8 + 1)) so_far.made one (omega arith) (omega arith);
             cleared = next_cleared flags at (home_of c.args.copy.now) (home_of copy) (home_of w.set.new.copy) (omega (arith, cells_counted copy, c.loop-c-test.true)) so_far.cleared (lock ∙ w.if-is_named.true) means;
           })
       | else-is_named w ↦
           rw (w.copy-is, w.group-is) (record {
             long = so_far.long;
-            made = more_cleans c.args.no c.args.copy.now copy copy c.args.group.now c.loop-c.group c.loop-c.group at (at * 9) 0 0 (at + 1) ((at + 1) * 9) so_far.made (no_cleans c.args.no copy c.loop-c.group) (omega arith) (omega arith);
+            made = more_cleans c.args.no c.args.copy.now copy copy c.args.group.now c.loop-c.group c.loop-c.group at (at * (8 + 1)) 0 0 (at + 1) ((at + 1) * (8 + 1)) so_far.made (no_cleans c.args.no copy c.loop-c.group) (omega arith) (omega arith);
             cleared = next_kept flags at (home_of c.args.copy.now) (home_of copy) so_far.cleared (lock ∙ w.if-is_named.false);
           })
     ]
