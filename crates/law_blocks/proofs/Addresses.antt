@@ -3,7 +3,7 @@ use Rattle.std.proofs.Common.{◌≡◌, ◌+◌, ◌-◌, ◌*◌, ◌/◌, ◌
 use Rattle.std.proofs.Math.Nat.{div-add-mod, mod-lt}
 use Rattle.rb_undoblock.specs.declared.record.TheConstants.{UNDO_RECORDS}
 use Rattle.rb_base.specs.declared.sizes.TheConstants.{SEGMENT_BLOCKS}
-use Rattle.rb_ring.specs.declared.extents.TheConstants.{EXTENT_RECORDS}
+use Rattle.rb_ring.specs.declared.extents.TheConstants.{EXTENT_BLOCKS, EXTENT_RECORDS}
 use Rattle.rb_base.specs.Blocks.{block_of, header_block, table_blocks}
 use Rattle.rb_base.specs.declared.ids.Uba.{Uba}
 use Rattle.rb_base.specs.declared.ids.Xid.{Xid}
@@ -27,28 +27,28 @@ pub next_place_is : (shape : Shape) (g : ℕ) (h : Header) → Ring h → h.reco
 next_place_is shape g h ring few =
     let t = next_address_tells shape g h ring few in
     let u = next_address shape g h in
-    places ((u.block - table_blocks shape) / SEGMENT_BLOCKS) (EXTENT_RECORDS * (u.ord - 2) + UNDO_RECORDS * (((u.block - table_blocks shape) % SEGMENT_BLOCKS - 1) % 4) + u.rec + 1) g (h.writes + 1) t.0 t.1
+    places ((u.block - table_blocks shape) / SEGMENT_BLOCKS) (EXTENT_RECORDS * (u.ord - 2) + UNDO_RECORDS * (((u.block - table_blocks shape) % SEGMENT_BLOCKS - 1) % EXTENT_BLOCKS) + u.rec + 1) g (h.writes + 1) t.0 t.1
 
 -- the turn and the position that an address's place counts
-pub place_turn : (shape : Shape) (g d k : ℕ) (u : Uba) → u.block ≡ header_block shape g + 1 + d → d < 32 → u.rec < UNDO_RECORDS → 2 ≤ u.ord → k ≡ (place_of shape u).index → (turn_of k ≡ u.ord) × (position_of k ≡ UNDO_RECORDS * (d % 4) + u.rec)
+pub place_turn : (shape : Shape) (g d k : ℕ) (u : Uba) → u.block ≡ header_block shape g + 1 + d → d < 32 → u.rec < UNDO_RECORDS → 2 ≤ u.ord → k ≡ (place_of shape u).index → (turn_of k ≡ u.ord) × (position_of k ≡ UNDO_RECORDS * (d % EXTENT_BLOCKS) + u.rec)
 place_turn shape g d k u at d_few few first is =
     let offset : u.block - table_blocks shape ≡ SEGMENT_BLOCKS * g + (1 + d) = omega (arith, at) in
     let a = div-add-mod (u.block - table_blocks shape) SEGMENT_BLOCKS in
     let b = mod-lt (u.block - table_blocks shape) (thirty_three) in
     let seg : (u.block - table_blocks shape) / SEGMENT_BLOCKS ≡ g = omega (arith, offset, a, b, d_few) in
     let rest : (u.block - table_blocks shape) % SEGMENT_BLOCKS - 1 ≡ d = omega (arith, offset, a, b, seg, d_few) in
-    let part : ((u.block - table_blocks shape) % SEGMENT_BLOCKS - 1) % 4 ≡ d % 4 = ap (λ (z : ℕ). z % 4) rest in
+    let part : ((u.block - table_blocks shape) % SEGMENT_BLOCKS - 1) % EXTENT_BLOCKS ≡ d % EXTENT_BLOCKS = ap (λ (z : ℕ). z % EXTENT_BLOCKS) rest in
     let c = mod-lt d (four) in
     let p = div-add-mod (k - 1) EXTENT_RECORDS in
     let q = mod-lt (k - 1) (forty) in
-    let count : k - 1 ≡ EXTENT_RECORDS * (u.ord - 2) + (UNDO_RECORDS * (d % 4) + u.rec) = omega (arith, is, part) in
+    let count : k - 1 ≡ EXTENT_RECORDS * (u.ord - 2) + (UNDO_RECORDS * (d % EXTENT_BLOCKS) + u.rec) = omega (arith, is, part) in
     let turn : (k - 1) / EXTENT_RECORDS ≡ u.ord - 2 = omega (arith, count, p, q, c, few) in
     (omega (arith, turn, first), omega (arith, turn, count, p, q, c, few))
   where
     thirty_three : 0 < SEGMENT_BLOCKS
     thirty_three = omega arith
 
-    four : 0 < 4
+    four : 0 < EXTENT_BLOCKS
     four = omega arith
 
     forty : 0 < EXTENT_RECORDS

@@ -15,7 +15,8 @@ use Rattle.rb_itl.specs.declared.slots.Entry as entries
 use Rattle.rb_itl.specs.declared.slots.TheConstants.{OPEN, EXACT, BOUND}
 use Rattle.rb_model.specs.Change.{Place}
 use Rattle.rb_segment.specs.Header.{Segment, record_in, limit_made, look_in, slot_in}
-use Rattle.rb_undoblock.specs.declared.record.TheConstants.{PUT, GONE}
+use Rattle.rb_ring.specs.declared.extents.TheConstants.{EXTENT_BLOCKS, EXTENT_RECORDS}
+use Rattle.rb_undoblock.specs.declared.record.TheConstants.{PUT, GONE, UNDO_RECORDS}
 use Rattle.rb_undoblock.specs.declared.record.UndoRecord.{UndoRecord}
 use Rattle.law_home.specs.Kinds.{Status, Free, Open, Exact, Bound, Entry, Cell, Empty, Row, Stub}
 use Rattle.law_home.specs.Kinds.{Sort, Puts, Takes, Holds, Undo}
@@ -26,7 +27,8 @@ use Rattle.law_home.specs.Walk.{Home, Env}
 abbrev pub place_of : Shape → Uba → Place
 place_of shape u = record {
   seg = (u.block - table_blocks shape) / SEGMENT_BLOCKS;
-  index = 40 * (u.ord - 2) + 10 * (((u.block - table_blocks shape) % SEGMENT_BLOCKS - 1) % 4) + u.rec + 1;
+  index = EXTENT_RECORDS * (u.ord - 2)
+    + UNDO_RECORDS * (((u.block - table_blocks shape) % SEGMENT_BLOCKS - 1) % EXTENT_BLOCKS) + u.rec + 1;
 }
 
 abbrev pub status_of : ℕ → ℕ → Status

@@ -17,15 +17,12 @@ ghost use Rattle.rb_undoblock.specs.Undo.{no_undo};
 
 use crate::records::SegmentRecord;
 use rb_base::{Failed, SEGMENT_BLOCKS, SLOTS, Scn, Shape, Store, UNIT, Uba, Xid};
-use rb_ring::{EXTENT_RECORDS, EXTENTS, extent_ord, lost, writes};
+use rb_ring::{EXTENT_BLOCKS, EXTENT_RECORDS, EXTENTS, extent_ord, lost, writes};
 use rb_txntable::{Look, look};
 use rb_undoblock::{UNDO_RECORDS, UndoRecord, undo_at};
 
 /// The records of an extent.
 const TURN_RECORDS: u64 = EXTENT_RECORDS as u64;
-
-/// The blocks of records of an extent.
-const EXTENT_BLOCKS: u32 = 4;
 
 /// The number of a record, counted from 1, in front of which so many turns and then so many records of its own turn
 /// were made; none where no count reaches it.

@@ -2,7 +2,7 @@
 use Rattle.std.proofs.Common.{◌≡◌, ◌<◌, ◌+◌, ◌-◌, ◌*◌, ◌/◌, ◌%◌, ℕ, suc, List, [], ◌∷◌, length, get_or, Option, Some, None, refl, sym, ◌∙◌, ap, subst, arith}
 use Rattle.std.proofs.Math.Nat.{div-add-mod, mod-lt}
 use Rattle.rb_undoblock.specs.declared.record.TheConstants.{UNDO_RECORDS}
-use Rattle.rb_ring.specs.declared.extents.TheConstants.{EXTENT_RECORDS}
+use Rattle.rb_ring.specs.declared.extents.TheConstants.{EXTENT_BLOCKS, EXTENT_RECORDS}
 use Rattle.rb_itl.specs.declared.slots.TheConstants.{ENTRIES}
 use Rattle.rb_cell.specs.declared.cell.TheConstants.{CELLS}
 use Rattle.rb_base.specs.Blocks.{header_block, table_blocks}
@@ -40,7 +40,7 @@ module _ (shape : Shape) (s : Segment) (x : Xid) (count : s.header.writes + 2 * 
     abbrev D : ℕ
     D = at.block - header_block shape x.seg - 1
 
-    tells : (turn_of k ≡ at.ord) × (position_of k ≡ UNDO_RECORDS * (D % 4) + at.rec)
+    tells : (turn_of k ≡ at.ord) × (position_of k ≡ UNDO_RECORDS * (D % EXTENT_BLOCKS) + at.rec)
     tells = place_turn shape x.seg D k at (omega (arith, a.behind)) (omega (arith, a.behind, a.within)) a.rec a.first place
 
     kept : (e : ℕ) × (extent_with s.header.extents at.ord ≡ Some e)
@@ -68,7 +68,7 @@ module _ (shape : Shape) (s : Segment) (x : Xid) (count : s.header.writes + 2 * 
 
     pub named : undo_named shape x.seg s at ≡ r
     named =
-        ap (λ (i : ℕ). get_or s.undo i no_undo) (joined (EXTENT_RECORDS * (D / 4)) (UNDO_RECORDS * (D % 4)) at.rec)
+        ap (λ (i : ℕ). get_or s.undo i no_undo) (joined (EXTENT_RECORDS * (D / EXTENT_BLOCKS)) (UNDO_RECORDS * (D % EXTENT_BLOCKS)) at.rec)
         ∙ address_reads shape x.seg s at k r a tells.0 tells.1 is
 
   -- a record that may be written back names what there is, and keeps what could stand there

@@ -9,6 +9,9 @@ use rb_base::{Scn, UNIT, u16_at, u64_at};
 /// The extents of a segment.
 pub const EXTENTS: usize = 8;
 
+/// The undo blocks of an extent.
+pub const EXTENT_BLOCKS: u32 = 4;
+
 /// The most records of an extent.
 pub const EXTENT_RECORDS: u16 = 40;
 

@@ -4,13 +4,14 @@ ghost use Rattle.rb_ring.specs.Written.{ExtentWritten, HeadWritten, RecordCountW
 ghost use Rattle.rb_ring.specs.Written.{ExtentApart, HeadApart, RecordCountApart, LostApart};
 
 use crate::extents::{
-    EXTENT_BYTES, EXTENT_RECORDS, EXTENTS, EXTENTS_AT, HEAD_AT, LOST_AT, NEWEST_AT, RECORDS_AT,
-    WRITES_AT,
+    EXTENT_BLOCKS, EXTENT_BYTES, EXTENT_RECORDS, EXTENTS, EXTENTS_AT, HEAD_AT, LOST_AT, NEWEST_AT,
+    RECORDS_AT, WRITES_AT,
 };
 
 /// How many extents a header has, and where their parts and those of the head are, as docs/FORMAT.md has them.
 pub fn ring_sizes()
     ensures count { EXTENTS ≡ 8 }
+    ensures blocks { EXTENT_BLOCKS ≡ 4 }
     ensures records { EXTENT_RECORDS ≡ 40 }
     ensures first { EXTENTS_AT ≡ 1056 }
     ensures bytes { EXTENT_BYTES ≡ 32 }

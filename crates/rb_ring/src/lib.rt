@@ -10,8 +10,8 @@ mod turns;
 
 pub use bytes::{extent_bytes, head_bytes, number_bytes};
 pub use extents::{
-    EXTENT_RECORDS, EXTENTS, Extent, HEAD_AT, LOST_AT, WRITES_AT, extent_at, extent_newest,
-    extent_ord, extent_place, head_extent, head_records, lost, writes,
+    EXTENT_BLOCKS, EXTENT_RECORDS, EXTENTS, Extent, HEAD_AT, LOST_AT, WRITES_AT, extent_at,
+    extent_newest, extent_ord, extent_place, head_extent, head_records, lost, writes,
 };
 pub use laws::{ring_apart, ring_sizes};
 pub use turns::{Turn, next};

@@ -5,7 +5,7 @@ use Rattle.std.proofs.Math.Nat.{div-add-mod, mod-lt}
 use Rattle.std.proofs.lemmas.List.FromFn.{get_or-map-range_with_len}
 use Rattle.rb_undoblock.specs.declared.record.TheConstants.{UNDO_RECORDS}
 use Rattle.rb_base.specs.declared.sizes.TheConstants.{SEGMENT_BLOCKS}
-use Rattle.rb_ring.specs.declared.extents.TheConstants.{EXTENTS, EXTENT_RECORDS}
+use Rattle.rb_ring.specs.declared.extents.TheConstants.{EXTENTS, EXTENT_BLOCKS, EXTENT_RECORDS}
 use Rattle.rb_base.specs.Blocks.{block_of, header_block, table_blocks}
 use Rattle.rb_base.specs.declared.ids.Uba.{Uba}
 use Rattle.rb_base.specs.declared.shape.Shape.{Shape}
@@ -22,35 +22,35 @@ use Rattle.rb_undoblock.specs.declared.record.UndoRecord.{UndoRecord}
 thirty_three : 0 < SEGMENT_BLOCKS
 thirty_three = omega arith
 
-four : 0 < 4
+four : 0 < EXTENT_BLOCKS
 four = omega arith
 
 ten : 0 < UNDO_RECORDS
 ten = omega arith
 
 -- block j of extent e of segment g
-pub block_tells : (shape : Shape) (g e j block : ℕ) → block ≡ header_block shape g + 1 + 4 * e + j → e < EXTENTS → j < 4 → ((block - table_blocks shape) / SEGMENT_BLOCKS ≡ g) × (((block - table_blocks shape) % SEGMENT_BLOCKS - 1) % 4 ≡ j)
+pub block_tells : (shape : Shape) (g e j block : ℕ) → block ≡ header_block shape g + 1 + EXTENT_BLOCKS * e + j → e < EXTENTS → j < EXTENT_BLOCKS → ((block - table_blocks shape) / SEGMENT_BLOCKS ≡ g) × (((block - table_blocks shape) % SEGMENT_BLOCKS - 1) % EXTENT_BLOCKS ≡ j)
 block_tells shape g e j block at e_few j_few =
-    let is : block - table_blocks shape ≡ SEGMENT_BLOCKS * g + (1 + 4 * e + j) = omega (arith, at) in
+    let is : block - table_blocks shape ≡ SEGMENT_BLOCKS * g + (1 + EXTENT_BLOCKS * e + j) = omega (arith, at) in
     let a = div-add-mod (block - table_blocks shape) SEGMENT_BLOCKS in
     let b = mod-lt (block - table_blocks shape) (thirty_three) in
     let seg : (block - table_blocks shape) / SEGMENT_BLOCKS ≡ g = omega (arith, is, a, b, e_few, j_few) in
-    let rest : (block - table_blocks shape) % SEGMENT_BLOCKS - 1 ≡ 4 * e + j = omega (arith, is, a, b, seg, e_few, j_few) in
-    let c = div-add-mod ((block - table_blocks shape) % SEGMENT_BLOCKS - 1) 4 in
+    let rest : (block - table_blocks shape) % SEGMENT_BLOCKS - 1 ≡ EXTENT_BLOCKS * e + j = omega (arith, is, a, b, seg, e_few, j_few) in
+    let c = div-add-mod ((block - table_blocks shape) % SEGMENT_BLOCKS - 1) EXTENT_BLOCKS in
     let d = mod-lt ((block - table_blocks shape) % SEGMENT_BLOCKS - 1) (four) in
     (seg, omega (arith, rest, c, d, j_few))
 
 -- the segment, and the number of the record, counted from 1
 pub next_address_tells : (shape : Shape) (g : ℕ) (h : Header) → Ring h → h.records < EXTENT_RECORDS
-    → (((next_address shape g h).block - table_blocks shape) / SEGMENT_BLOCKS ≡ g) × (EXTENT_RECORDS * ((next_address shape g h).ord - 2) + UNDO_RECORDS * ((((next_address shape g h).block - table_blocks shape) % SEGMENT_BLOCKS - 1) % 4) + (next_address shape g h).rec + 1 ≡ h.writes + 1)
+    → (((next_address shape g h).block - table_blocks shape) / SEGMENT_BLOCKS ≡ g) × (EXTENT_RECORDS * ((next_address shape g h).ord - 2) + UNDO_RECORDS * ((((next_address shape g h).block - table_blocks shape) % SEGMENT_BLOCKS - 1) % EXTENT_BLOCKS) + (next_address shape g h).rec + 1 ≡ h.writes + 1)
 next_address_tells shape g h ring few =
     let a = div-add-mod h.records UNDO_RECORDS in
     let b = mod-lt h.records (ten) in
     let p = div-add-mod (next_place h) UNDO_RECORDS in
     let q = mod-lt (next_place h) (ten) in
-    let quotient : next_place h / UNDO_RECORDS ≡ 4 * h.head + h.records / UNDO_RECORDS = omega (arith, a, b, p, q) in
+    let quotient : next_place h / UNDO_RECORDS ≡ EXTENT_BLOCKS * h.head + h.records / UNDO_RECORDS = omega (arith, a, b, p, q) in
     let rest : next_place h % UNDO_RECORDS ≡ h.records % UNDO_RECORDS = omega (arith, a, b, p, q, quotient) in
-    let at : undo_block shape g (next_place h) ≡ header_block shape g + 1 + 4 * h.head + h.records / UNDO_RECORDS = omega (arith, quotient) in
+    let at : undo_block shape g (next_place h) ≡ header_block shape g + 1 + EXTENT_BLOCKS * h.head + h.records / UNDO_RECORDS = omega (arith, quotient) in
     let t = block_tells shape g h.head (h.records / UNDO_RECORDS) (undo_block shape g (next_place h)) at ring.head_in (omega (arith, a, b, few)) in
     (t.0, omega (arith, t.1, a, b, rest, ring.count, ring.second))
 
@@ -59,7 +59,7 @@ pub next_address_is : (shape : Shape) (g : ℕ) (h : Header) → Ring h → h.re
 next_address_is shape g h ring few =
     let p = div-add-mod (next_place h) UNDO_RECORDS in
     let q = mod-lt (next_place h) (ten) in
-    let c = div-add-mod (next_place h / UNDO_RECORDS) 4 in
+    let c = div-add-mod (next_place h / UNDO_RECORDS) EXTENT_BLOCKS in
     let d = mod-lt (next_place h / UNDO_RECORDS) (four) in
     record {
       behind = omega arith;
@@ -71,8 +71,8 @@ next_address_is shape g h ring few =
           let f : (e < length h.extents) × (ord_in h e ≡ head_turn h) = found h.extents (head_turn h) e at in
           let one : e ≡ h.head = ring.apart e h.head (omega (arith, f.1, ring.second)) (f.1) in
           let place : (undo_block shape g (next_place h) - header_block shape g - 1) ≡ next_place h / UNDO_RECORDS = omega arith in
-          let here : (next_place h / UNDO_RECORDS) / 4 ≡ h.head = omega (arith, p, q, c, d, few) in
-          one ∙ (sym here ∙ ap (λ (z : ℕ). z / 4) (sym place));
+          let here : (next_place h / UNDO_RECORDS) / EXTENT_BLOCKS ≡ h.head = omega (arith, p, q, c, d, few) in
+          one ∙ (sym here ∙ ap (λ (z : ℕ). z / EXTENT_BLOCKS) (sym place));
     }
 
 -- one stays one where its turn's extent, as long as there is one, is the same
@@ -110,10 +110,10 @@ address_turned shape g e h u ring may a = address_later shape g h (turned e h) u
 
 -- which place of its segment an address names
 abbrev pub place_read : Shape → ℕ → Uba → ℕ
-place_read shape g u = EXTENT_RECORDS * ((u.block - header_block shape g - 1) / 4) + UNDO_RECORDS * ((u.block - header_block shape g - 1) % 4) + u.rec
+place_read shape g u = EXTENT_RECORDS * ((u.block - header_block shape g - 1) / EXTENT_BLOCKS) + UNDO_RECORDS * ((u.block - header_block shape g - 1) % EXTENT_BLOCKS) + u.rec
 
 -- a record that is found under the turn and position of an address stands where the address says
-pub address_reads : (shape : Shape) (g : ℕ) (s : Segment) (u : Uba) (k : ℕ) (r : UndoRecord) → IsAddress shape g s.header u → turn_of k ≡ u.ord → position_of k ≡ UNDO_RECORDS * ((u.block - header_block shape g - 1) % 4) + u.rec → record_in s k ≡ Some r → get_or s.undo (place_read shape g u) no_undo ≡ r
+pub address_reads : (shape : Shape) (g : ℕ) (s : Segment) (u : Uba) (k : ℕ) (r : UndoRecord) → IsAddress shape g s.header u → turn_of k ≡ u.ord → position_of k ≡ UNDO_RECORDS * ((u.block - header_block shape g - 1) % EXTENT_BLOCKS) + u.rec → record_in s k ≡ Some r → get_or s.undo (place_read shape g u) no_undo ≡ r
 address_reads shape g s u k r a turn position is =
     let m : undo_in s.undo (position_of k) (extent_with s.header.extents (turn_of k)) ≡ Some r = (made_of s k r is).2 in
     at_place (extent_with s.header.extents u.ord) refl (subst (λ (z : ℕ). undo_in s.undo (position_of k) (extent_with s.header.extents z) ≡ Some r) turn m)
@@ -121,7 +121,7 @@ address_reads shape g s u k r a turn position is =
     at_place : (o : Option ℕ) → extent_with s.header.extents u.ord ≡ o → undo_in s.undo (position_of k) o ≡ Some r → get_or s.undo (place_read shape g u) no_undo ≡ r
     at_place None was there = let wrong : None ≡ Some r = there in absurd (cc)
     at_place (Some e) was there =
-        let e_is : e ≡ (u.block - header_block shape g - 1) / 4 = a.extent e was in
+        let e_is : e ≡ (u.block - header_block shape g - 1) / EXTENT_BLOCKS = a.extent e was in
         let place : place_read shape g u ≡ EXTENT_RECORDS * e + position_of k = omega (arith, e_is, position) in
         let one : Some (get_or s.undo (EXTENT_RECORDS * e + position_of k) no_undo) ≡ Some r = there in
         let same : get_or s.undo (EXTENT_RECORDS * e + position_of k) no_undo ≡ r = cc in
@@ -132,7 +132,7 @@ pub address_block : (shape : Shape) (blocks : List (List ℕ)) (g : ℕ) (u : Ub
 unfolding segment_of
 address_block shape blocks g u behind within few =
     let d = u.block - header_block shape g - 1 in
-    let a = div-add-mod d 4 in
+    let a = div-add-mod d EXTENT_BLOCKS in
     let b = mod-lt d (four) in
     let i = place_read shape g u in
     let i_is : i ≡ UNDO_RECORDS * d + u.rec = omega (arith, a) in

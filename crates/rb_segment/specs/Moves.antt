@@ -11,7 +11,7 @@ use Rattle.rb_base.specs.declared.shape.Shape.{Shape}
 use Rattle.rb_base.specs.declared.sizes.TheConstants.{ACTIVE, SEGMENT_BLOCKS}
 use Rattle.rb_ring.specs.Turns as ring
 use Rattle.rb_ring.specs.declared.extents.Extent.{Extent}
-use Rattle.rb_ring.specs.declared.extents.TheConstants.{EXTENTS, EXTENT_RECORDS}
+use Rattle.rb_ring.specs.declared.extents.TheConstants.{EXTENTS, EXTENT_BLOCKS, EXTENT_RECORDS}
 use Rattle.rb_segment.specs.Header.{Header, Segment, slot_in, extent_in, ord_in, head_turn, record_in, limit_in}
 use Rattle.rb_segment.specs.Header.{has_bit, undo_block, extent_with}
 use Rattle.rb_txntable.specs.Looks.{LookAges, slot_look}
@@ -174,7 +174,8 @@ pub record IsAddress (shape : Shape) (g : ℕ) (h : Header) (u : Uba) : Type 0 w
   pub rec : u.rec < UNDO_RECORDS
   pub first : 2 ≤ u.ord
   pub given : u.ord ≤ head_turn h
-  pub extent : (e : ℕ) → extent_with h.extents u.ord ≡ Some e → e ≡ (u.block - header_block shape g - 1) / 4
+  pub extent : (e : ℕ) → extent_with h.extents u.ord ≡ Some e
+    → e ≡ (u.block - header_block shape g - 1) / EXTENT_BLOCKS
 
 -- A later moment of a segment. A slot that goes on keeps its wrap and all records of it.
 pub record SegmentAges (goes : ℕ → Type 0) (s s2 : Segment) : Type 0 where

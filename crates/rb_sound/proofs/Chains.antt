@@ -1,7 +1,7 @@
 -- A chain of live records, one record further; and where an address reads the record that it names.
 use Rattle.std.proofs.Common.{◌≡◌, ◌↔◌, ◌<◌, ◌≤◌, ◌+◌, ◌-◌, ◌*◌, ◌/◌, ◌%◌, ℕ, zero, suc, true, Bool, List, get_or, sym, ◌∙◌, ap, subst, arith}
 use Rattle.rb_undoblock.specs.declared.record.TheConstants.{UNDO_RECORDS}
-use Rattle.rb_ring.specs.declared.extents.TheConstants.{EXTENT_RECORDS}
+use Rattle.rb_ring.specs.declared.extents.TheConstants.{EXTENT_BLOCKS, EXTENT_RECORDS}
 use Rattle.rb_base.specs.Blocks.{block_of, header_block}
 use Rattle.rb_base.specs.declared.ids.Uba.{Uba}
 use Rattle.rb_base.specs.declared.ids.Xid.{Xid}
@@ -28,7 +28,7 @@ slot_is shape blocks g i header is few = sym (slot_read header i few) ∙ ap (λ
 named_read : (shape : Shape) (blocks : List (List ℕ)) (g : ℕ) (h : Header) (at : Uba) → IsValid shape g h at → undo_named shape g (segment_of shape blocks g) at ≡ undo_at (block_of blocks at.block) at.rec
 named_read shape blocks g h at is =
     let behind = at.block - header_block shape g - 1 in
-    ap (λ (place : ℕ). get_or (segment_of shape blocks g).undo place no_undo) (joined (EXTENT_RECORDS * (behind / 4)) (UNDO_RECORDS * (behind % 4)) at.rec) ∙ address_block shape blocks g at is.behind is.within is.rec
+    ap (λ (place : ℕ). get_or (segment_of shape blocks g).undo place no_undo) (joined (EXTENT_RECORDS * (behind / EXTENT_BLOCKS)) (UNDO_RECORDS * (behind % EXTENT_BLOCKS)) at.rec) ∙ address_block shape blocks g at is.behind is.within is.rec
   where
     joined : (a b c : ℕ) → a + (b + c) ≡ a + b + c
     joined a b c = omega arith

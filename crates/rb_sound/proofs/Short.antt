@@ -2,7 +2,7 @@
 use Rattle.std.proofs.Common.{◌≡◌, ◌<◌, ◌≤◌, ◌+◌, ◌-◌, ◌*◌, ℕ, zero, suc, get_or, inl, inr, ap, subst, arith}
 use Rattle.std.proofs.Math.Nat.{div-add-mod, mod-lt}
 use Rattle.std.proofs.lemmas.Bool.{cases_lt}
-use Rattle.rb_ring.specs.declared.extents.TheConstants.{EXTENTS, EXTENT_RECORDS}
+use Rattle.rb_ring.specs.declared.extents.TheConstants.{EXTENTS, EXTENT_BLOCKS, EXTENT_RECORDS}
 use Rattle.rb_base.specs.Blocks.{header_block}
 use Rattle.rb_base.specs.declared.ids.Uba.{Uba}
 use Rattle.rb_base.specs.declared.ids.Xid.{Xid}
@@ -36,13 +36,13 @@ module _ (Kept : UndoRecord → Type 0) (shape : Shape) (s : Segment) (x : Xid) 
       let l = links n j before chain.2 (omega arith) in
       record { valid = l.valid; live = subst (λ (m : ℕ). IsLive shape x m (undo_named shape x.seg s (behind j before))) (omega arith) l.live }
 
-  four : 0 < 4
+  four : 0 < EXTENT_BLOCKS
   four = omega arith
 
   place_few : (at : Uba) → IsValid shape x.seg s.header at → place at < (EXTENTS * EXTENT_RECORDS)
   place_few at is =
       let d = at.block - header_block shape x.seg - 1 in
-      let a = div-add-mod d 4 in
+      let a = div-add-mod d EXTENT_BLOCKS in
       let b = mod-lt d (four) in
       omega (arith, a, b, is.behind, is.within, is.rec)
 

@@ -12,7 +12,7 @@ use Rattle.rb_cell.specs.declared.cell.TheConstants.{CELLS, LENGTH_AT}
 use Rattle.rb_heap.specs.Soundness.{IsCellSound, IsEntrySound}
 use Rattle.rb_itl.specs.Entries.{entry_of}
 use Rattle.rb_itl.specs.declared.slots.TheConstants.{ENTRIES}
-use Rattle.rb_ring.specs.declared.extents.TheConstants.{EXTENTS}
+use Rattle.rb_ring.specs.declared.extents.TheConstants.{EXTENTS, EXTENT_BLOCKS}
 use Rattle.rb_segment.specs.Header.{Header, Segment, ord_in, segment_of, slot_in}
 use Rattle.rb_segment.specs.Segments.{wrap_in}
 use Rattle.rb_sound.specs.declared.home.Limits.{Limits}
@@ -23,10 +23,10 @@ use Rattle.rb_undoblock.specs.declared.record.UndoRecord.{UndoRecord}
 
 -- the extent of segment g that has the block of an address, and which of the extent's records the address names
 abbrev pub extent_named : Shape → ℕ → Uba → ℕ
-extent_named shape g at = (at.block - header_block shape g - 1) / 4
+extent_named shape g at = (at.block - header_block shape g - 1) / EXTENT_BLOCKS
 
 abbrev pub position_named : Shape → ℕ → Uba → ℕ
-position_named shape g at = 10 * ((at.block - header_block shape g - 1) % 4) + at.rec
+position_named shape g at = UNDO_RECORDS * ((at.block - header_block shape g - 1) % EXTENT_BLOCKS) + at.rec
 
 -- the record there
 abbrev pub undo_named : Shape → ℕ → Segment → Uba → UndoRecord

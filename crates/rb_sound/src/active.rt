@@ -14,15 +14,12 @@ use rb_base::{
 };
 use rb_cell::{CELLS, cell_from};
 use rb_itl::{ENTRIES, entry_from};
-use rb_ring::{EXTENTS, extent_ord, head_extent, head_records, writes};
+use rb_ring::{EXTENT_BLOCKS, EXTENTS, extent_ord, head_extent, head_records, writes};
 use rb_txntable::{TableSlot, slot_at};
 use rb_undoblock::{UNDO_RECORDS, UndoRecord, undo_at};
 
 /// The byte of a cell at which the length of its value begins.
 const LENGTH_AT: usize = 2;
-
-/// The undo blocks of an extent.
-const EXTENT_BLOCKS: u32 = 4;
 
 /// Whether extent `e`, 0 to 7, has that turn and a record at that position, 0 to 39: the head has no more than the
 /// header counts, and each other one is full.
