@@ -28,7 +28,7 @@ abbrev pub place_of : Shape → Uba → Place
 place_of shape u = record {
   seg = (u.block - table_blocks shape) / SEGMENT_BLOCKS;
   index = EXTENT_RECORDS * (u.ord - 2)
-    + UNDO_RECORDS * (((u.block - table_blocks shape) % SEGMENT_BLOCKS - 1) % EXTENT_BLOCKS) + u.rec + 1;
+      + UNDO_RECORDS * (((u.block - table_blocks shape) % SEGMENT_BLOCKS - 1) % EXTENT_BLOCKS) + u.rec + 1;
 }
 
 abbrev pub status_of : ℕ → ℕ → Status

@@ -175,7 +175,7 @@ pub record IsAddress (shape : Shape) (g : ℕ) (h : Header) (u : Uba) : Type 0 w
   pub first : 2 ≤ u.ord
   pub given : u.ord ≤ head_turn h
   pub extent : (e : ℕ) → extent_with h.extents u.ord ≡ Some e
-    → e ≡ (u.block - header_block shape g - 1) / EXTENT_BLOCKS
+      → e ≡ (u.block - header_block shape g - 1) / EXTENT_BLOCKS
 
 -- A later moment of a segment. A slot that goes on keeps its wrap and all records of it.
 pub record SegmentAges (goes : ℕ → Type 0) (s s2 : Segment) : Type 0 where
