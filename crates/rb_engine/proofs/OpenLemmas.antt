@@ -73,7 +73,7 @@ told_err P Q (Err e) is so = so e is
 
 -- a new table is that of sessions that have done nothing
 fresh_at : (u : ℕ) → kept_at (replicate SESSIONS fresh) u ≡ fresh
-fresh_at u = by (u - 1) 16
+fresh_at u = by (u - 1) SESSIONS
   where
     by : (i n : ℕ) → get_or (replicate n fresh) i fresh ≡ fresh
     by i zero = refl

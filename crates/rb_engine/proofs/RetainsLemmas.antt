@@ -56,11 +56,11 @@ module _ (h : State) (xids : List Xid) (blocks : List (List ℕ)) (stand : Block
       let book : IsBook (segments_of h.shape blocks g).header (book_at h.books g) = stand.tell.books g there in
       let one = book.newest i few in
       let two = book.newest j few2 in
-      let first : (16 * g + i) / SLOTS ≡ g = omega (arith, few) in
-      let second : (16 * g + j) / SLOTS ≡ g = omega (arith, few2) in
-      let i_is : (16 * g + i) % SLOTS ≡ i = omega (arith, few) in
-      let j_is : (16 * g + j) % SLOTS ≡ j = omega (arith, few2) in
-      let t = stand.standing.stands.apart (16 * g + i) (16 * g + j) (omega (arith, there, few)) (omega (arith, there, few2)) (rw (first, i_is) (omega (arith, some, one))) (rw (first, second, i_is, j_is) (sym one ∙ same ∙ two)) in
+      let first : (SLOTS * g + i) / SLOTS ≡ g = omega (arith, few) in
+      let second : (SLOTS * g + j) / SLOTS ≡ g = omega (arith, few2) in
+      let i_is : (SLOTS * g + i) % SLOTS ≡ i = omega (arith, few) in
+      let j_is : (SLOTS * g + j) % SLOTS ≡ j = omega (arith, few2) in
+      let t = stand.standing.stands.apart (SLOTS * g + i) (SLOTS * g + j) (omega (arith, there, few)) (omega (arith, there, few2)) (rw (first, i_is) (omega (arith, some, one))) (rw (first, second, i_is, j_is) (sym one ∙ same ∙ two)) in
       omega (arith, t)
 
   module _ (s g i : ℕ) (within : WritesIn h s g i) (there : g < h.shape.segments) (few : i < SLOTS) where

@@ -176,7 +176,7 @@ module _ {S : Type 0} (s : Ghosts S) where
                   (survives_on s (s.slots old) h m (with_own m who front) old mid new st.going (left.survives before keeps) (subst (λ (k : Option ℕ). Survives s k before m (with_own m who front) mid new) same.slots ((all before).1 keeps)));
               back =
                   let named = slot_named m (env_of h.shape (s.blocks mid)) who made.slot x left.id made.owns in
-                  let parts = div-add-mod made.slot 16 in
+                  let parts = div-add-mod made.slot SLOTS in
                   let at : made.slot ≡ SLOTS * x.seg + x.slot = omega (arith, parts, ap (λ (z : Xid). z.seg) named, ap (λ (z : Xid). z.slot) named) in
                   let put : IsPutBack h.shape (SLOTS * x.seg + x.slot) (last_record h.shape (s.blocks mid) (SLOTS * x.seg + x.slot)) (s.blocks mid) (s.blocks new) =
                   subst (λ (t : ℕ). IsPutBack h.shape t (last_record h.shape (s.blocks mid) t) (s.blocks mid) (s.blocks new)) at

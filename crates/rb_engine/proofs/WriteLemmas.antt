@@ -224,7 +224,7 @@ module _ (h : State) (xids : List Xid) (blocks : List (List ℕ)) (sessions : Li
   pub holder_there : BlocksStand h xids blocks → length h.sessions ≡ SESSIONS → ((u : ℕ) → 1 ≤ u → u ≤ SESSIONS → (kept_at sessions u).own ≢ Some x) → ⊥
   holder_there stand sixteen none =
       let range = stand.tell.owner_there held.0 held.1 held.3 in
-      let up : held.0 ≤ 16 = omega (arith, range.1, sixteen) in
+      let up : held.0 ≤ SESSIONS = omega (arith, range.1, sixteen) in
       none held.0 range.0 up ((knows.each held.0 range.0 up).id.owns held.1 held.3 ∙ ap (λ (y : Xid). Some y) (sym held.4))
 
   -- and no other one has it

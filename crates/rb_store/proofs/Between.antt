@@ -2,6 +2,7 @@
 use Rattle.std.proofs.Common.{◌*◌, ◌≡◌, ◌≢◌, ⊎_elim, ℕ, ◌+◌, ◌^◌, ◌<◌, List, ◌++◌, length, take, arith, ap, sym, ◌∙◌, subst, refl, slice_index}
 use Rattle.std.proofs.lemmas.List.{take_all, take-take, length-take-le, length-append}
 use Rattle.std.specs.List.{AllByRecursion}
+use Rattle.rb_layout.specs.declared.layout.TheConstants.{IDENTITY}
 use Rattle.rb_base.specs.Blocks.{block_of, after_groups}
 use Rattle.rb_base.specs.Fields.{number_at}
 use Rattle.rb_base.specs.Groups.{Patch, IsGroup}
@@ -31,7 +32,7 @@ are_groups l gs each = all_so (IsLoggable l) IsGroup gs (λ g valid. valid.valid
 -- an image that is in front of the log as another one has its identity
 pub same_identity : (l : Layout) (c d : List ℕ) → length c ≡ file_length l → take (log_offset 0) c ≡ take (log_offset 0) d → HasIdentity file_version l d → HasIdentity file_version l c
 same_identity l c d whole front id = record {
-  front = sym (take-take 24 (log_offset 0) c (omega arith)) ∙ ap (take 24) front ∙ take-take 24 (log_offset 0) d (omega arith) ∙ id.front;
+  front = sym (take-take IDENTITY (log_offset 0) c (omega arith)) ∙ ap (take IDENTITY) front ∙ take-take IDENTITY (log_offset 0) d (omega arith) ∙ id.front;
   whole = whole;
 }
 

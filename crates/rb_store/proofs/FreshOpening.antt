@@ -2,6 +2,7 @@
 use Rattle.std.proofs.Common.{◌*◌, ◌≡◌, ◌≢◌, ℕ, ◌<◌, ◌+◌, ◌-◌, ◌%◌, ◌^◌, ◌++◌, List, [], length, replicate, drop, slice_index, refl, arith, ap, sym, subst, ◌∙◌, inr, append_assoc}
 use Rattle.std.proofs.lemmas.List.{get_or-take, get_or-drop, drop_at, drop-drop, length-append, length-replicate}
 use Rattle.std.specs.List.{concat}
+use Rattle.rb_layout.specs.declared.layout.TheConstants.{IDENTITY}
 use Rattle.byteorder.specs.Endian.{big_number}
 use Rattle.rb_base.specs.Blocks.{block_kind, block_of, fresh_block, fresh_blocks, fresh_head, fresh_rest, shape_blocks}
 use Rattle.rb_base.specs.Fields.{number_at}
@@ -62,18 +63,18 @@ first_head = record { slot = 0; number = 1 }
 behind_first : (l : Layout) → (rest : List ℕ) × (drop UNIT (fresh_file file_version l) ≡ fresh_copy ++ rest)
 behind_first l =
     let own = identity file_version l in
-    let zeros : List ℕ = replicate (UNIT - 24) 0 in
+    let zeros : List ℕ = replicate (UNIT - IDENTITY) 0 in
     let more : List ℕ = replicate (block_offset l 0 - (3 * UNIT)) 0 in
     let units = concat (fresh_blocks (shape_of l)) in
     let rest = fresh_copy ++ (more ++ units) in
-    let long : length own ≡ 24 = omega arith in
+    let long : length own ≡ IDENTITY = omega arith in
     let split : fresh_file file_version l ≡ (own ++ zeros) ++ (fresh_copy ++ rest) =
     append_assoc (own ++ (zeros ++ (fresh_copy ++ fresh_copy))) more units
     ∙ append_assoc own (zeros ++ (fresh_copy ++ fresh_copy)) (more ++ units)
     ∙ ap (λ (x : List ℕ). own ++ x) (append_assoc zeros (fresh_copy ++ fresh_copy) (more ++ units)
     ∙ ap (λ (x : List ℕ). zeros ++ x) (append_assoc fresh_copy fresh_copy (more ++ units)))
     ∙ sym (append_assoc own zeros (fresh_copy ++ rest)) in
-    (rest, ap (drop UNIT) split ∙ drop_at (own ++ zeros) (fresh_copy ++ rest) UNIT (omega (arith, long, length-append own zeros, length-replicate {A = ℕ} (UNIT - 24) 0)))
+    (rest, ap (drop UNIT) split ∙ drop_at (own ++ zeros) (fresh_copy ++ rest) UNIT (omega (arith, long, length-append own zeros, length-replicate {A = ℕ} (UNIT - IDENTITY) 0)))
 
 first_slot : (rest : List ℕ) → big_number 4 (fresh_copy ++ rest) ≡ 0
 first_slot rest = refl

@@ -3,6 +3,7 @@ use Rattle.std.proofs.Common.{◌≡◌, ◌≢◌, inr, ⊎_elim, ℕ, ◌+◌,
 use Rattle.std.proofs.lemmas.Bool.{eqb-true}
 use Rattle.std.proofs.lemmas.List.{drop-drop, take-take}
 use Rattle.std.proofs.lemmas.List.FromFn.{length-map-range_with_len}
+use Rattle.rb_layout.specs.declared.layout.TheConstants.{IDENTITY}
 use Rattle.rb_base.proofs.Fronts.{byte_of_part}
 use Rattle.rb_base.specs.Blocks.{block_of, after_groups}
 use Rattle.rb_base.specs.Fields.{number_at, part}
@@ -40,7 +41,7 @@ later_part f g k m same le =
 
 same_identity : (l : Layout) (f g : List ℕ) → SameBut UNIT (log_offset 0) f g → HasIdentity file_version l f → HasIdentity file_version l g
 same_identity l f g same id = record {
-  front = sym (take-take 24 UNIT g (omega arith)) ∙ ap (take 24) same.before ∙ take-take 24 UNIT f (omega arith) ∙ id.front;
+  front = sym (take-take IDENTITY UNIT g (omega arith)) ∙ ap (take IDENTITY) same.before ∙ take-take IDENTITY UNIT f (omega arith) ∙ id.front;
   whole = same.long ∙ id.whole;
 }
 

@@ -4,6 +4,7 @@ use Rattle.std.proofs.lemmas.Result.{err_from_is_err_and}
 use Rattle.rb_base.specs.Logs.{Laws, no_logs}
 use Rattle.rb_base.specs.declared.ids.Xid.{Xid}
 use Rattle.rb_base.specs.declared.shape.Shape.{Shape}
+use Rattle.rb_engine.specs.declared.cursors.TheConstants.{CURSORS}
 use Rattle.rb_engine.specs.Does.{Does, Goes, IsInStep, Kept, Stands}
 use Rattle.rb_model.specs.Calls as machine
 use Rattle.rb_model.specs.Calls.{MayAnswer, name_tests, early_tests, none_applies}
@@ -75,10 +76,10 @@ returns-then-session-ge-CURSORS-clause-did g c = λ h st.
     let its = views.named_is h goes.xids (env_of h.shape (s.blocks c.args.store.now)) c.args.s name c.args.memory.now.sessions goes.remembers there.0 there.1 in
     let sessions = ap (λ (k : Kept). k.sessions) c.memory.view_is in
     let count : c.session-session.result.cursors ≡ length (kept_at c.args.memory.now.sessions c.args.s).cursors = c.session-session.ensures.cursors ∙ ap (λ (l : List KeptSession). length (kept_at l c.args.s).cursors) sessions in
-    let many : 16 ≤ length (cursors_of h c.args.s) = let full = c.if-session-ge-CURSORS.true in let same = its.2 in omega (arith, full, count, same) in
+    let many : CURSORS ≤ length (cursors_of h c.args.s) = let full = c.if-session-ge-CURSORS.true in let same = its.2 in omega (arith, full, count, same) in
     let none : cursor_of h c.args.s name ≡ None = its.0 (ap (λ (l : List KeptSession). named name (kept_at l c.args.s).cursors) (sym sessions) ∙ (sym c.cursor.ensures ∙ not_some c.cursor.result (sym c.is_some.ensures ∙ c.if-is_some.false))) in
     does_refused_late s (laws_of g) h call TooManyCursors (record { memory = c.args.memory.now; store = c.args.store.now }) st c.requires.step.going
-    (MayAnswer.later (name_tests h call) (c.in_ok-check_table.ensures.granted h (name_text c.args.name.now) c.args.lo c.args.hi st.knows (c.shape.ensures.shape ∙ st.shape)) refl (rw (none, le-leb 16 (length (cursors_of h c.args.s)) many) refl)) (λ clash. cc)
+    (MayAnswer.later (name_tests h call) (c.in_ok-check_table.ensures.granted h (name_text c.args.name.now) c.args.lo c.args.hi st.knows (c.shape.ensures.shape ∙ st.shape)) refl (rw (none, le-leb CURSORS (length (cursors_of h c.args.s)) many) refl)) (λ clash. cc)
 
 pub returns-clause-step : goal.returns-clause-step
 returns-clause-step g c =
@@ -112,7 +113,7 @@ returns-clause-did g c = λ h st.
     let k = kept_at old.sessions c.args.s in
     let its = views.named_is h goes.xids (env_of h.shape (s.blocks store)) c.args.s name old.sessions goes.remembers there.0 there.1 in
     let none : cursor_of h c.args.s name ≡ None = its.0 (sym c.cursor.ensures ∙ not_some c.cursor.result (sym c.is_some.ensures ∙ c.if-is_some.false)) in
-    let few : length (cursors_of h c.args.s) < 16 = let room = c.if-session-ge-CURSORS.false in let count = c.session-session.ensures.cursors in let same = its.2 in omega (arith, room, count, same) in
+    let few : length (cursors_of h c.args.s) < CURSORS = let room = c.if-session-ge-CURSORS.false in let count = c.session-session.ensures.cursors in let same = its.2 in omega (arith, room, count, same) in
     let in_tables : is_table h c.args.table ≡ true =
     subst (λ (z : Shape). nat_le 1 c.args.table && nat_le c.args.table z.tables ≡ true) (c.shape.ensures.shape ∙ st.shape)
     (and_from (nat_le 1 c.args.table) (nat_le c.args.table c.shape.result.tables) (le-leb 1 c.args.table c.in_ok-check_table.ensures.table.0) (le-leb c.args.table c.shape.result.tables c.in_ok-check_table.ensures.table.1)) in
@@ -121,7 +122,7 @@ returns-clause-did g c = λ h st.
     subst (λ (m : Kept). Does s h call machine.Done (record { memory = m; store = store }) (record { memory = now; store = store })) c.memory.view_is
     (does_cursors s st.told (laws_of g) h call machine.Done c.args.s (cursors_of h c.args.s ++ opened_cursor h c.args.s name c.args.table c.args.lo c.args.hi ∷ []) (record { memory = old; store = store }) (record { memory = now; store = store }) here going
     (there.0, (let n = st.knows.sixteen in omega (arith, there, n)))
-    (MayAnswer.later (name_tests h call) (c.in_ok-check_table.ensures.granted h (name_text c.args.name.now) c.args.lo c.args.hi st.knows (c.shape.ensures.shape ∙ st.shape)) refl (rw (none, lt-leb 16 (length (cursors_of h c.args.s)) few) refl)) refl refl (λ s t k a is done. cc) refl refl refl refl refl
+    (MayAnswer.later (name_tests h call) (c.in_ok-check_table.ensures.granted h (name_text c.args.name.now) c.args.lo c.args.hi st.knows (c.shape.ensures.shape ∙ st.shape)) refl (rw (none, lt-leb CURSORS (length (cursors_of h c.args.s)) few) refl)) refl refl (λ s t k a is done. cc) refl refl refl refl refl
     (ap (λ (l : List KeptSession). map (λ k. k.asked) l) c.open_cursor.ensures ∙ all_asked old.sessions (c.args.s - 1) (with_cursor name opened k) refl)
     (λ xids stand is. subst (Remembers (next.with_cursors h c.args.s (cursors_of h c.args.s ++ opened_cursor h c.args.s name c.args.table c.args.lo c.args.hi ∷ [])) xids (env_of h.shape (s.blocks store)))
     (ap (λ (m : Cursor). with_kept old.sessions c.args.s (with_cursor name m k)) (sym same) ∙ sym c.open_cursor.ensures) (views.opened h xids (s.blocks store) old.sessions c.args.s name c.args.table c.args.lo c.args.hi stand is there.0 there.1 in_tables))

@@ -56,7 +56,7 @@ returns-then-is_none-clause-did g c = λ h st.
     let count = ap (λ (l : List Savepoint). length l) others in
     let told = c.session-count.ensures.savepoints.0 in
     does_refused_late s (laws_of g) h call TooManySavepoints (record { memory = c.args.memory.now; store = c.args.store.now }) st c.requires.step.going
-    (MayAnswer.later (name_tests h call) (c.in_ok-check_session.ensures.granted h st.knows) refl (rw (le-leb 16 (length (without_savepoint name (session_of h c.args.s).savepoints)) (omega (arith, count, told, c.if-count-ge-SAVEPOINTS.true))) refl)) (λ clash. cc)
+    (MayAnswer.later (name_tests h call) (c.in_ok-check_session.ensures.granted h st.knows) refl (rw (le-leb SAVEPOINTS (length (without_savepoint name (session_of h c.args.s).savepoints)) (omega (arith, count, told, c.if-count-ge-SAVEPOINTS.true))) refl)) (λ clash. cc)
 
 pub set_savepoint-requires-clause-room : goal.set_savepoint-requires-clause-room
 set_savepoint-requires-clause-room g c =
@@ -100,12 +100,12 @@ returns-clause-did g c = λ h st.
     let goes : Goes s h (record { memory = old; store = store }) = here.goes going in
     let kept = (kept_at old.sessions c.args.s).savepoints in
     let same : kept ≡ (session_of h c.args.s).savepoints = (goes.remembers.each c.args.s there.0 there.1).savepoints in
-    let few : length (without_savepoint name (session_of h c.args.s).savepoints) < 16 = subst (λ (l : List Savepoint). length (without_savepoint name l) < 16) same (set_savepoint-requires-clause-room g c.before) in
+    let few : length (without_savepoint name (session_of h c.args.s).savepoints) < SAVEPOINTS = subst (λ (l : List Savepoint). length (without_savepoint name l) < SAVEPOINTS) same (set_savepoint-requires-clause-room g c.before) in
     let savepoints = next.with_savepoint name (length (session_own h c.args.s)) (session_of h c.args.s).savepoints in
     subst (λ (k : Kept). Does s h call machine.Done (record { memory = k; store = store }) (record { memory = now; store = store })) c.memory.view_is
     (does_session s st.told (laws_of g) h call machine.Done c.args.s (record (session_of h c.args.s) { savepoints = savepoints }) (record { memory = old; store = store }) (record { memory = now; store = store }) here going
     (there.0, (let n = st.knows.sixteen in omega (arith, there, n))) refl
-    (MayAnswer.later (name_tests h call) (c.in_ok-check_session.ensures.granted h st.knows) refl (rw (lt-leb 16 (length (without_savepoint name (session_of h c.args.s).savepoints)) few) refl)) refl refl (λ s t k a is done. cc) refl refl refl refl refl
+    (MayAnswer.later (name_tests h call) (c.in_ok-check_session.ensures.granted h st.knows) refl (rw (lt-leb SAVEPOINTS (length (without_savepoint name (session_of h c.args.s).savepoints)) few) refl)) refl refl (λ s t k a is done. cc) refl refl refl refl refl
     (ap (λ (l : List KeptSession). map (λ k. k.asked) l) c.set_savepoint.ensures ∙ all_asked old.sessions (c.args.s - 1) (with_savepoint name (kept_at old.sessions c.args.s)) refl)
     (λ xids stand is. subst (Remembers (next.with_savepoints h c.args.s savepoints) xids (env_of h.shape (s.blocks store))) (sym c.set_savepoint.ensures) (savepoint_remembered h xids (env_of h.shape (s.blocks store)) old.sessions c.args.s name is there.0 there.1))
     (no_logs s store ((subst (λ (k : Kept). IsInStep s k store) (sym c.memory.view_is) c.requires.step).going (ap (λ (k : Kept). k.stopped) c.memory.view_is ∙ c.in_ok-check_session.ensures.going)))
