@@ -1,18 +1,20 @@
 /* Writes down each call that the program makes of its file and its streams, into which this library is loaded, and makes
  * some of them fail. CALLS names the file that takes the list: a letter for what was called, the place and the length as
  * eight bytes each, and what was written. FAILED has the numbers of calls of the file that fail, counted from 1 and with a
- * comma behind each; FAILED_IN and FAILED_OUT those of the script and of the replies. A read of the script gets at most as
- * many bytes as PIECE has. tests/hostile compiles and uses it. */
+ * comma behind each; FAILED_IN and FAILED_OUT those of the script and of the replies. HELD has those of the syncs in
+ * front of which the run stops itself, until it is continued. A read of the script gets at most as many bytes as PIECE
+ * has. tests/hostile compiles and uses it. */
 #define _GNU_SOURCE
 #include <errno.h>
 #include <fcntl.h>
+#include <signal.h>
 #include <stdint.h>
 #include <stdlib.h>
 #include <string.h>
 #include <sys/syscall.h>
 #include <unistd.h>
 
-static unsigned long of_file, of_script, of_replies;
+static unsigned long of_file, of_syncs, of_script, of_replies;
 
 /* Whether a list of numbers has this one. */
 static int has(const char *list, unsigned long number) {
@@ -68,21 +70,19 @@ ssize_t pwrite64(int file, const void *bytes, size_t length, off64_t at) {
 
 ssize_t pwrite(int file, const void *bytes, size_t length, off_t at) { return pwrite64(file, bytes, length, at); }
 
-int fdatasync(int file) {
+static int synced(long sync, int file) {
     if (fails("FAILED", ++of_file, 'S'))
         return -1;
-    int done = syscall(SYS_fdatasync, file);
-    note('s', 0, 0, NULL);
+    if (has("HELD", ++of_syncs))
+        raise(SIGSTOP);
+    int done = syscall(sync, file);
+    note(done ? 'S' : 's', 0, 0, NULL);
     return done;
 }
 
-int fsync(int file) {
-    if (fails("FAILED", ++of_file, 'S'))
-        return -1;
-    int done = syscall(SYS_fsync, file);
-    note('s', 0, 0, NULL);
-    return done;
-}
+int fdatasync(int file) { return synced(SYS_fdatasync, file); }
+
+int fsync(int file) { return synced(SYS_fsync, file); }
 
 ssize_t read(int file, void *into, size_t length) {
     if (file == 0) {

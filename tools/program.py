@@ -118,9 +118,9 @@ def run(words, script=b"", **how):
 class Session:
     """A run that is fed while it goes, and whose replies are read as they come."""
 
-    def __init__(self, words):
+    def __init__(self, words, env=None):
         pipe = subprocess.PIPE
-        self.process = subprocess.Popen(words, stdin=pipe, stdout=pipe, stderr=subprocess.DEVNULL, bufsize=0)
+        self.process = subprocess.Popen(words, stdin=pipe, stdout=pipe, stderr=subprocess.DEVNULL, bufsize=0, env=env)
         self.read = b""
         self.feeder = None
 
@@ -134,13 +134,16 @@ class Session:
     def send(self, text):
         self.process.stdin.write(text)
 
-    def feed(self, pieces):
-        """Sends the pieces beside what else is done, as long as the run takes them."""
+    def feed(self, pieces, ends=False):
+        """Sends the pieces beside what else is done, as long as the run takes them; and then the end of its input, if
+        that ends there."""
 
         def send_all():
             try:
                 for piece in pieces:
                     self.process.stdin.write(piece)
+                if ends:
+                    self.process.stdin.close()
             except BrokenPipeError:
                 pass
 
@@ -166,6 +169,14 @@ class Session:
                 raise Wrong("the program ended before a reply")
         line, self.read = self.read.split(b"\n", 1)
         return line
+
+    def rest(self, seconds=DEADLINE):
+        """All that is written up to the end of the replies."""
+        until = time.monotonic() + seconds
+        while self.more(until - time.monotonic()):
+            if time.monotonic() > until:
+                raise Wrong(f"no end within {seconds} seconds")
+        return self.read
 
     def ask(self, line):
         """Sends one line, and reads its reply before anything else is sent."""
