@@ -35,5 +35,6 @@ fresh_state shape sessions = record {
   books = replicate shape.segments fresh_book;
   queue = [];
   asked = replicate (length sessions) None;
+  safe = 0;
   stopped = false;
 }

@@ -7,12 +7,12 @@ use Rattle.rb_base.specs.Moments.{joined, weaker}
 use Rattle.rb_base.specs.declared.ids.Xid.{Xid}
 use Rattle.rb_base.specs.declared.shape.Shape.{Shape}
 use Rattle.rb_base.specs.declared.store.Store.{Ghosts}
-use Rattle.law_crash.specs.Between.{whole, one_commit, one_write, reached, at_end, Extends, MarksGrow}
+use Rattle.law_crash.specs.Between.{up_to, one_commit, one_write, reached, at_end, Extends, FoundSome, IsCommit, MarksGrow}
 use Rattle.law_crash.specs.Crash.{AtEnd, OnTheWay, Restarts, RestartsAt, Survives}
-use Rattle.law_crash.specs.Images.{HasState, MarksWithin}
+use Rattle.law_crash.specs.Images.{HasSome, HasState, MarksWithin}
 use Rattle.law_crash.proofs.Past.{sound_as}
 use Rattle.rb_model.specs.Book.{Book}
-use Rattle.rb_model.specs.Calls.{Action, Call, Commit, Write}
+use Rattle.rb_model.specs.Calls.{Action, Call, Write}
 use Rattle.rb_model.specs.Rows.{Commits, last_scn, over, rows_at}
 use Rattle.rb_model.specs.State.{State}
 use Rattle.law_blocks.specs.Standing.{SoundAs, logged_of}
@@ -50,14 +50,15 @@ has_state h xids blocks lsn stand logged = record {
 
 -- commits are only added
 
-pub extends_same : (h h2 : State) → h2.shape ≡ h.shape → h2.commits ≡ h.commits → MarksGrow h.shape h.books h2.books → Extends h h2
-extends_same h h2 shape e marks = record {
+pub extends_same : (h h2 : State) → h2.shape ≡ h.shape → h2.commits ≡ h.commits → MarksGrow h.shape h.books h2.books → h.safe ≤ h2.safe → Extends h h2
+extends_same h h2 shape e marks safe = record {
   shape = shape;
   base = ap (λ (c : Commits). c.base) e;
   rows = ap (λ (c : Commits). c.rows) e;
   more = [];
   list = ap (λ (c : Commits). c.list) e ∙ sym (append-nil h.commits.list);
   marks = marks;
+  safe = safe;
 }
 
 pub extends_on : (h m h2 : State) → Extends h m → Extends m h2 → Extends h h2
@@ -68,6 +69,7 @@ extends_on h m h2 a b = record {
   more = a.more ++ b.more;
   list = b.list ∙ ap (λ xs. xs ++ b.more) a.list ∙ append_assoc h.commits.list a.more b.more;
   marks = grow_on h.shape h.books m.books h2.books a.marks (subst (λ (x : Shape). MarksGrow x m.books h2.books) a.shape b.marks);
+  safe = omega (arith, a.safe, b.safe);
 }
 
 pub extends_later : (h h2 : State) → Extends h h2 → last_scn h.commits ≤ last_scn h2.commits
@@ -92,6 +94,19 @@ has_later h h2 books books2 n blocks lsn shape rows grow has = record {
   marks = subst (λ (x : Shape). MarksWithin x books2 blocks) (sym shape) (within_grown h.shape books books2 blocks grow has.marks);
 }
 
+-- Blocks that have a state at some number have a later one there, which acknowledges no more.
+pub some_later : (h h2 : State) (books books2 : List Book) (blocks : List (List ℕ)) (lsn : ℕ) → Extends h h2 → h2.safe ≤ h.safe → MarksGrow h.shape books books2 → HasSome h books blocks lsn → HasSome h2 books2 blocks lsn
+some_later h h2 books books2 blocks lsn e safe grow some = record {
+  number = some.number;
+  acknowledged = omega (arith, safe, some.acknowledged);
+  made = omega (arith, some.made, extends_later h h2 e);
+  found = has_later h h2 books books2 some.number blocks lsn e.shape (rows_stay h.shape.blocks h h2 some.number e some.made) grow some.found;
+}
+
+-- and blocks that have it whole
+pub some_last : (h : State) (books : List Book) (blocks : List (List ℕ)) (lsn : ℕ) → h.safe ≤ last_scn h.commits → HasState h books (last_scn h.commits) blocks lsn → HasSome h books blocks lsn
+some_last h books blocks lsn safe has = record { number = last_scn h.commits; acknowledged = safe; made = omega arith; found = has }
+
 module _ {I : Type 0} (opens : Shape → Option ℕ → I → List (List ℕ) → ℕ → Type 0) (slots : Option ℕ) where
   pub restarts_later : (h h2 : State) (books books2 : List Book) (n : ℕ) (i : I) → Extends h h2 → n ≤ last_scn h.commits → MarksGrow h.shape books books2 → RestartsAt opens slots books h n i → RestartsAt opens slots books2 h2 n i
   restarts_later h h2 books books2 n i e le grow r = record {
@@ -101,24 +116,35 @@ module _ {I : Type 0} (opens : Shape → Option ℕ → I → List (List ℕ) �
     has = has_later h h2 books books2 n r.blocks r.lsn e.shape (rows_stay h.shape.blocks h h2 n e le) grow r.has;
   }
 
+  -- the same at some number
+  pub some_restarts : (h h2 : State) (books books2 : List Book) (i : I) → Extends h h2 → h2.safe ≤ h.safe → MarksGrow h.shape books books2 → FoundSome (RestartsAt opens slots) books h i → FoundSome (RestartsAt opens slots) books2 h2 i
+  some_restarts h h2 books books2 i e safe grow some = record {
+    number = some.number;
+    acknowledged = omega (arith, safe, some.acknowledged);
+    made = omega (arith, some.made, extends_later h h2 e);
+    found = restarts_later h h2 books books2 some.number i e some.made grow some.found;
+  }
+
   -- an engine that goes on stands for its state
   pub stands_at_end : (fault : Option Call) (h : State) (i : I) → h.stopped ≡ false → AtEnd opens slots fault h i → Restarts opens slots h i
-  stands_at_end fault h i going (whole r) = r
+  stands_at_end fault h i going (up_to r) = r
   stands_at_end fault h i going (one_commit s by stopped some r) = absurd (false≢true (sym going ∙ stopped))
   stands_at_end fault h i going (one_write s table key action g k by stopped writes r) = absurd (false≢true (sym going ∙ stopped))
 
   -- nor does a fault in a call that neither commits nor writes leave anything else
-  pub whole_after : (fault : Option Call) (h : State) (i : I) → ((s : ℕ) → fault ≢ Some (Commit s)) → ((s table key : ℕ) (action : Action) → fault ≢ Some (Write s table key action)) → AtEnd opens slots fault h i → Restarts opens slots h i
-  whole_after fault h i commit write (whole r) = r
+  pub whole_after : (fault : Option Call) (h : State) (i : I) → ((s : ℕ) → ¬ IsCommit s fault) → ((s table key : ℕ) (action : Action) → fault ≢ Some (Write s table key action)) → AtEnd opens slots fault h i → Restarts opens slots h i
+  whole_after fault h i commit write (up_to r) = r
   whole_after fault h i commit write (one_commit s by stopped some r) = absurd (commit s by)
   whole_after fault h i commit write (one_write s table key action g k by stopped writes r) = absurd (write s table key action by)
 
   way_further : (first fault : Option Call) (h m h2 : State) (i : I) → Extends h m → Extends m h2 → m.stopped ≡ false → OnTheWay opens slots first h m i → OnTheWay opens slots fault h h2 i
   way_further first fault h m h2 i d e going (reached n low high r) = reached n low (omega (arith, high, extends_later m h2 e)) (restarts_later m h2 m.books h2.books n i e high e.marks r)
-  way_further first fault h m h2 i d e going (at_end a) = reached (last_scn m.commits) (extends_later h m d) (extends_later m h2 e) (restarts_later m h2 m.books h2.books (last_scn m.commits) i e (omega arith) e.marks (stands_at_end first m i going a))
+  way_further first fault h m h2 i d e going (at_end a) =
+      let r = stands_at_end first m i going a in
+      reached r.number (omega (arith, d.safe, r.acknowledged)) (omega (arith, r.made, extends_later m h2 e)) (restarts_later m h2 m.books h2.books r.number i e r.made e.marks r.found)
 
   way_longer : (fault : Option Call) (h m h2 : State) (i : I) → Extends h m → OnTheWay opens slots fault m h2 i → OnTheWay opens slots fault h h2 i
-  way_longer fault h m h2 i d (reached n low high r) = reached n (omega (arith, low, extends_later h m d)) high r
+  way_longer fault h m h2 i d (reached n low high r) = reached n (omega (arith, low, d.safe)) high r
   way_longer fault h m h2 i d (at_end a) = at_end a
 
 module _ {S : Type 0} (s : Ghosts S) (slots : Option ℕ) where

@@ -1,4 +1,5 @@
 pub mod Past
+pub mod Beside
 pub mod CommitHeld
 pub mod Crashes
 pub mod Steps

@@ -7,20 +7,20 @@ use Rattle.std.proofs.Math.Seq.{take-append-add}
 use Rattle.rb_base.specs.Blocks.{after_group, after_groups}
 use Rattle.rb_base.specs.Groups.{Patch}
 use Rattle.rb_base.specs.Keeps.{AfterEach, Keeps, all_stable, keeps_logged, leaves_logged}
-use Rattle.rb_base.specs.Logs.{Flushes, Laws, Logs, LogsBy}
+use Rattle.rb_base.specs.Logs.{Laws, Logs, LogsBy}
 use Rattle.rb_base.specs.Moments.{LeavesOnly, weaker}
 use Rattle.rb_base.specs.Settling.{after_joined, told_same}
 use Rattle.rb_base.specs.declared.shape.Shape.{Shape}
 use Rattle.rb_base.specs.declared.store.Store.{Ghosts}
-use Rattle.law_crash.specs.Between.{whole, one_commit, one_write, reached, at_end, Extends, MarksGrow, with_commit}
+use Rattle.law_crash.specs.Between.{up_to, one_commit, one_write, reached, at_end, Extends, FoundSome, IsCommit, MarksGrow, with_commit}
 use Rattle.law_crash.specs.Crash.{AtEnd, OnTheWay, Restarts, RestartsAt, Survives}
-use Rattle.law_crash.specs.Images.{HasState}
-use Rattle.law_crash.proofs.Crashes.{extends_later, extends_same, grow_same, has_later, restarts_later}
+use Rattle.law_crash.specs.Images.{HasSome, HasState}
+use Rattle.law_crash.proofs.Crashes.{extends_same, grow_same, restarts_later, some_last, some_later, some_restarts}
 use Rattle.rb_model.specs.Book.{Book}
-use Rattle.rb_model.specs.Calls.{Action, Call, Commit, Write, WritesIn, has_slot, is_empty}
+use Rattle.rb_model.specs.Calls.{Action, Call, Write, WritesIn, has_slot, is_empty}
 use Rattle.rb_model.specs.NextState.{books_written}
-use Rattle.rb_model.specs.Rows.{Commits, last_scn, rows_at}
-use Rattle.rb_model.specs.State.{State, session_own}
+use Rattle.rb_model.specs.Rows.{last_scn}
+use Rattle.rb_model.specs.State.{State, all_safe, session_own}
 
 abbrev pub Property : Type 1
 Property = List (List ℕ) → ℕ → Type 0
@@ -119,99 +119,103 @@ module _ {S : Type 0} (s : Ghosts S) (laws : Laws s) (keeps : s.keeps) where
     has = has;
   }
 
-  -- Calls that went well, or gave no group: the state then has the same commits, and no less marks.
-  pub survives_going : {Between : S → S → Type 0} {fault : Option Call} → (h h2 : State) (old new : S) (groups : List (List Patch)) → s.shape_of old ≡ h.shape → h2.shape ≡ h.shape → h2.commits ≡ h.commits → MarksGrow h.shape h.books h2.books
-      → Keeps s (HasState h h.books (last_scn h.commits)) old → (going : Bool) → LogsBy s Between old new groups going
-      → AfterEach (HasState h2 h2.books (last_scn h2.commits)) (s.lsn old) groups (s.blocks old)
+  -- and where it has a state at some number
+  pub restarts_some : (h : State) (books : List Book) (store : S) (i : s.image) → s.shape_of store ≡ h.shape → OpensWith s (HasSome h books) store i → FoundSome (RestartsAt s.opens (s.slots store)) books h i
+  restarts_some h books store i shape (b, m, opening, has) = record {
+    number = has.number;
+    acknowledged = has.acknowledged;
+    made = has.made;
+    found = restarts h books has.number store i shape (b, m, opening, has.found);
+  }
+
+  -- Calls that went well, or gave no group: the state then has the commits of before, and perhaps more, and acknowledges no
+  -- more.
+  pub survives_going : {Between : S → S → Type 0} {fault : Option Call} → (h h2 : State) (old new : S) (groups : List (List Patch)) → s.shape_of old ≡ h.shape → Extends h h2 → h2.safe ≤ h.safe
+      → Keeps s (HasSome h h.books) old → (going : Bool) → LogsBy s Between old new groups going
+      → AfterEach (HasSome h2 h2.books) (s.lsn old) groups (s.blocks old)
       → Survives s (s.slots old) fault h h2 old new
-  survives_going {fault = fault} h h2 old new groups shape shapes commits grow kept going logs each =
-      let Q : Property = HasState h2 h2.books (last_scn h2.commits) in
-      let P : Property = HasState h h.books (last_scn h.commits) in
-      let number : last_scn h.commits ≡ last_scn h2.commits = ap last_scn (sym commits) in
-      let so : (b : List (List ℕ)) (n : ℕ) → P b n → Q b n = λ b n has.
-      subst (λ (m : ℕ). HasState h2 h2.books m b n) number
-      (has_later h h2 h.books h2.books (last_scn h.commits) b n shapes (ap (λ (c : Commits). rows_at h.shape.blocks c (last_scn h.commits)) commits) grow has) in
-      let leaves = leaves_on P Q so old new groups going kept logs each in
-      let at : s.shape_of old ≡ h2.shape = shape ∙ sym shapes in record {
-        extends = extends_same h h2 shapes commits grow;
-        any_moment = weaker s.moment s.left_since old new (OpensWith s Q old) (OnTheWay s.opens (s.slots old) fault h h2) (λ i opens. at_end (whole (restarts h2 h2.books (last_scn h2.commits) old i at opens))) leaves;
-        now_only = λ i here. whole (restarts h2 h2.books (last_scn h2.commits) old i at (left_now Q old new leaves i here));
+  survives_going {fault = fault} h h2 old new groups shape extends safe kept going logs each =
+      let Q : Property = HasSome h2 h2.books in
+      let so : (b : List (List ℕ)) (n : ℕ) → HasSome h h.books b n → Q b n = λ b n has. some_later h h2 h.books h2.books b n extends safe extends.marks has in
+      let leaves = leaves_on (HasSome h h.books) Q so old new groups going kept logs each in
+      let at : s.shape_of old ≡ h2.shape = shape ∙ sym extends.shape in record {
+        extends = extends;
+        any_moment = weaker s.moment s.left_since old new (OpensWith s Q old) (OnTheWay s.opens (s.slots old) fault h h2) (λ i opens. at_end (up_to (restarts_some h2 h2.books old i at opens))) leaves;
+        now_only = λ i here. up_to (restarts_some h2 h2.books old i at (left_now Q old new leaves i here));
       }
 
   -- A write that answered a fault: its group may be there.
   pub survives_write : (h : State) (t table key : ℕ) (action : Action) (g k : ℕ) (old new : S) (groups : List (List Patch)) → s.shape_of old ≡ h.shape → WritesIn h t g k
-      → MarksGrow h.shape h.books (books_written t g k (has_slot h t g k) h.books) → Keeps s (HasState h h.books (last_scn h.commits)) old → Logs s old new groups false
-      → AfterEach (HasState h (books_written t g k (has_slot h t g k) h.books) (last_scn h.commits)) (s.lsn old) groups (s.blocks old)
+      → MarksGrow h.shape h.books (books_written t g k (has_slot h t g k) h.books) → Keeps s (HasSome h h.books) old → Logs s old new groups false
+      → AfterEach (HasSome h (books_written t g k (has_slot h t g k) h.books)) (s.lsn old) groups (s.blocks old)
       → Survives s (s.slots old) (Some (Write t table key action)) h (record h { stopped = true }) old new
   survives_write h t table key action g k old new groups shape writes grow kept logs each =
       let books = books_written t g k (has_slot h t g k) h.books in
       let h2 : State = record h { stopped = true } in
-      let Q : Property = HasState h books (last_scn h.commits) in
-      let P : Property = HasState h h.books (last_scn h.commits) in
-      let so : (b : List (List ℕ)) (n : ℕ) → P b n → Q b n = λ b n has. has_later h h h.books books (last_scn h.commits) b n refl refl grow has in
-      let leaves = leaves_on P Q so old new groups false kept logs each in
+      let Q : Property = HasSome h books in
+      let stays = extends_same h h refl refl (grow_same h.shape h.books) (omega arith) in
+      let so : (b : List (List ℕ)) (n : ℕ) → HasSome h h.books b n → Q b n = λ b n has. some_later h h h.books books b n stays (omega arith) grow has in
+      let leaves = leaves_on (HasSome h h.books) Q so old new groups false kept logs each in
+      let stops = extends_same h h2 refl refl (grow_same h.shape h.books) (omega arith) in
       let end : (i : s.image) → OpensWith s Q old i → AtEnd s.opens (s.slots old) (Some (Write t table key action)) h2 i = λ i opens.
-      one_write t table key action g k refl refl writes (restarts_later s.opens (s.slots old) h h2 books books (last_scn h.commits) i (extends_same h h2 refl refl (grow_same h.shape h.books)) (omega arith) (grow_same h.shape books) (restarts h books (last_scn h.commits) old i shape opens)) in record {
-        extends = extends_same h h2 refl refl (grow_same h.shape h.books);
+      one_write t table key action g k refl refl writes (some_restarts s.opens (s.slots old) h h2 books books i stops (omega arith) (grow_same h.shape books) (restarts_some h books old i shape opens)) in record {
+        extends = stops;
         any_moment = weaker s.moment s.left_since old new (OpensWith s Q old) (OnTheWay s.opens (s.slots old) (Some (Write t table key action)) h h2) (λ i opens. at_end (end i opens)) leaves;
         now_only = λ i here. end i (left_now Q old new leaves i here);
       }
 
-  -- What a commit's group may make of an image: the state without it, or with it.
-  abbrev pub BeforeOrAfter : (h h2 : State) → Property
-  BeforeOrAfter h h2 b n = HasState h h.books (last_scn h.commits) b n ⊎ HasState h2 h2.books (last_scn h2.commits) b n
+  -- A commit that answered a fault: its group may be there.
+  pub commit_failed : {Between : S → S → Type 0} (h : State) (t : ℕ) (fault : Option Call) (old new : S) (groups : List (List Patch)) → IsCommit t fault → s.shape_of old ≡ h.shape → is_empty (session_own h t) ≡ false → Keeps s (HasSome h h.books) old
+      → LogsBy s Between old new groups false
+      → AfterEach (λ b n. HasSome h h.books b n ⊎ HasState (with_commit h t) h.books (last_scn h.commits + 1) b n) (s.lsn old) groups (s.blocks old)
+      → Survives s (s.slots old) fault h (record h { stopped = true }) old new
+  commit_failed h t fault old new groups is shape own kept logs each =
+      let h2 : State = record h { stopped = true } in
+      let P : Property = HasSome h h.books in
+      let Q : Property = λ b n. HasSome h h.books b n ⊎ HasState (with_commit h t) h.books (last_scn h.commits + 1) b n in
+      let leaves = leaves_on P Q (λ b n has. inl has) old new groups false kept logs each in
+      let stops = extends_same h h2 refl refl (grow_same h.shape h.books) (omega arith) in
+      let end : (i : s.image) → OpensWith s Q old i → AtEnd s.opens (s.slots old) fault h2 i = λ i opens. ⊎_elim
+      (λ (was : HasSome h h.books opens.0 opens.1). up_to (some_restarts s.opens (s.slots old) h h2 h.books h.books i stops (omega arith) (grow_same h.shape h.books) (restarts_some h h.books old i shape (opens.0, opens.1, opens.2, was))))
+      (λ (one : HasState (with_commit h t) h.books (last_scn h.commits + 1) opens.0 opens.1).
+      let r : RestartsAt s.opens (s.slots old) h.books (with_commit h t) (last_scn h.commits + 1) i = restarts (with_commit h t) h.books (last_scn h.commits + 1) old i shape (opens.0, opens.1, opens.2, one) in
+      one_commit t is refl own (record { blocks = r.blocks; lsn = r.lsn; opening = r.opening; has = record { logged = r.has.logged; sound = r.has.sound; marks = r.has.marks } }))
+      opens.3 in record {
+        extends = stops;
+        any_moment = weaker s.moment s.left_since old new (OpensWith s Q old) (OnTheWay s.opens (s.slots old) fault h h2) (λ i opens. at_end (end i opens)) leaves;
+        now_only = λ i here. end i (left_now Q old new leaves i here);
+      }
 
-  -- A commit that answered its number: the group was given, and then all were made last.
-  pub survives_commit : {fault : Option Call} → (h h2 : State) (old mid new : S) (g : List Patch) → s.shape_of old ≡ h.shape → Extends h h2 → Keeps s (HasState h h.books (last_scn h.commits)) old
-      → Logs s old mid (g ∷ []) true → Flushes s mid new [] true → Flushes s old new (g ∷ []) true → s.pending new ≡ [] → HasState h2 h2.books (last_scn h2.commits) (s.blocks new) (s.lsn new) → s.blocks new ≡ after_group (s.lsn old + 1) g (s.blocks old) → s.lsn new ≡ s.lsn old + 1
-      → Survives s (s.slots old) fault h h2 old new × Keeps s (HasState h2 h2.books (last_scn h2.commits)) new
-  survives_commit {fault = fault} h h2 old mid new g shape extends kept one two both none has made number =
-      let P : Property = HasState h h.books (last_scn h.commits) in
-      let Q : Property = BeforeOrAfter h h2 in
-      let R : Property = HasState h2 h2.books (last_scn h2.commits) in
-      let after : R (after_group (s.lsn old + 1) g (s.blocks old)) (s.lsn old + 1) = told_same R _ _ _ _ made number has in
-      let each : AfterEach Q (s.lsn old) (g ∷ []) (s.blocks old) = one_each Q g (s.blocks old) (s.lsn old) (inl (read_has P old kept)) (inr after) in
-      let leaves = leaves_on P Q (λ b n has. inl has) old new (g ∷ []) true kept both each in
-      let wide : Keeps s Q new = keeps_on P Q (λ b n has. inl has) old new (g ∷ []) kept both each in
+  -- All that waited was made last: a crash leaves the state with all its commits from then on.
+  pub survives_flush : {Between : S → S → Type 0} {fault : Option Call} → (h : State) (old new : S) → s.shape_of old ≡ h.shape → Keeps s (HasSome h h.books) old → LogsBy s Between old new [] true → s.pending new ≡ []
+      → HasState h h.books (last_scn h.commits) (s.blocks new) (s.lsn new)
+      → Survives s (s.slots old) fault h (all_safe h) old new × Keeps s (HasSome (all_safe h) h.books) new
+  survives_flush {fault = fault} h old new shape kept logs none has =
+      let h2 : State = all_safe h in
+      let P : Property = HasSome h h.books in
+      let R : Property = HasSome h2 h2.books in
+      let each : AfterEach P (s.lsn old) [] (s.blocks old) = none_each P (s.blocks old) (s.lsn old) (read_has P old kept) in
+      let leaves = leaves_on P P (λ b n is. is) old new [] true kept logs each in
+      let wide : Keeps s P new = keeps_on P P (λ b n is. is) old new [] kept logs each in
       let stable : s.stable new (s.blocks new) (s.lsn new) = all_stable s new wide.base wide.first keeps laws wide.stable none in
+      let all : R (s.blocks new) (s.lsn new) = some_last h2 h2.books (s.blocks new) (s.lsn new) (omega arith) (record { logged = has.logged; sound = has.sound; marks = has.marks }) in
       let now : Keeps s R new = record {
         base = s.blocks new;
         first = s.lsn new;
         stable = stable;
-        each = subst (λ (l : List (List Patch)). AfterEach R (s.lsn new) l (s.blocks new)) (sym none) (none_each R (s.blocks new) (s.lsn new) has);
+        each = subst (λ (l : List (List Patch)). AfterEach R (s.lsn new) l (s.blocks new)) (sym none) (none_each R (s.blocks new) (s.lsn new) all);
       } in
-      let at : s.shape_of old ≡ h2.shape = shape ∙ sym extends.shape in
+      let known = read_has P old kept in
+      let stays = extends_same h h2 refl refl (grow_same h.shape h.books) (omega (arith, known.acknowledged, known.made)) in
       let back : (i : s.image) → OpensWith s R new i → Restarts s.opens (s.slots old) h2 i = λ i opens.
-      subst (λ (slots : Option ℕ). RestartsAt s.opens slots h2.books h2 (last_scn h2.commits) i) both.same_slots
-      (restarts h2 h2.books (last_scn h2.commits) new i (both.same_shape ∙ at) opens) in (
+      subst (λ (slots : Option ℕ). FoundSome (RestartsAt s.opens slots) h2.books h2 i) logs.same_slots
+      (restarts_some h2 h2.books new i (logs.same_shape ∙ shape) opens) in (
         record {
-          extends = extends;
-          any_moment = weaker s.moment s.left_since old new (OpensWith s Q old) (OnTheWay s.opens (s.slots old) fault h h2) (λ i opens. ⊎_elim
-              (λ (was : HasState h h.books (last_scn h.commits) opens.0 opens.1). reached (last_scn h.commits) (omega arith) (extends_later h h2 extends)
-              (restarts_later s.opens (s.slots old) h h2 h.books h2.books (last_scn h.commits) i extends (omega arith) extends.marks (restarts h h.books (last_scn h.commits) old i shape (opens.0, opens.1, opens.2, was))))
-              (λ (is : HasState h2 h2.books (last_scn h2.commits) opens.0 opens.1). at_end (whole (restarts h2 h2.books (last_scn h2.commits) old i at (opens.0, opens.1, opens.2, is))))
-              opens.3) leaves;
-          now_only = λ i here. whole (back i (left_with R new now i here));
+          extends = stays;
+          any_moment = weaker s.moment s.left_since old new (OpensWith s P old) (OnTheWay s.opens (s.slots old) fault h h2) (λ i opens.
+              let r = restarts_some h h.books old i shape opens in
+              reached r.number r.acknowledged r.made (restarts_later s.opens (s.slots old) h h2 h.books h2.books r.number i stays r.made (grow_same h.shape h.books) r.found)) leaves;
+          now_only = λ i here. up_to (back i (left_with R new now i here));
         },
         now,
       )
-
-  -- A commit that answered a fault: its group may be there.
-  pub commit_failed : {Between : S → S → Type 0} (h : State) (t : ℕ) (old new : S) (groups : List (List Patch)) → s.shape_of old ≡ h.shape → is_empty (session_own h t) ≡ false → Keeps s (HasState h h.books (last_scn h.commits)) old → LogsBy s Between old new groups false
-      → AfterEach (λ b n. HasState h h.books (last_scn h.commits) b n ⊎ HasState (with_commit h t) h.books (last_scn h.commits + 1) b n) (s.lsn old) groups (s.blocks old)
-      → Survives s (s.slots old) (Some (Commit t)) h (record h { stopped = true }) old new
-  commit_failed h t old new groups shape some kept logs each =
-      let h2 : State = record h { stopped = true } in
-      let P : Property = HasState h h.books (last_scn h.commits) in
-      let Q : Property = λ b n. HasState h h.books (last_scn h.commits) b n ⊎ HasState (with_commit h t) h.books (last_scn h.commits + 1) b n in
-      let leaves = leaves_on P Q (λ b n has. inl has) old new groups false kept logs each in
-      let end : (i : s.image) → OpensWith s Q old i → AtEnd s.opens (s.slots old) (Some (Commit t)) h2 i = λ i opens. ⊎_elim
-      (λ (was : HasState h h.books (last_scn h.commits) opens.0 opens.1). whole (restarts_later s.opens (s.slots old) h h2 h.books h.books (last_scn h.commits) i (extends_same h h2 refl refl (grow_same h.shape h.books)) (omega arith) (grow_same h.shape h.books) (restarts h h.books (last_scn h.commits) old i shape (opens.0, opens.1, opens.2, was))))
-      (λ (is : HasState (with_commit h t) h.books (last_scn h.commits + 1) opens.0 opens.1).
-      let r : RestartsAt s.opens (s.slots old) h.books (with_commit h t) (last_scn h.commits + 1) i = restarts (with_commit h t) h.books (last_scn h.commits + 1) old i shape (opens.0, opens.1, opens.2, is) in
-      one_commit t refl refl some (record { blocks = r.blocks; lsn = r.lsn; opening = r.opening; has = record { logged = r.has.logged; sound = r.has.sound; marks = r.has.marks } }))
-      opens.3 in record {
-        extends = extends_same h h2 refl refl (grow_same h.shape h.books);
-        any_moment = weaker s.moment s.left_since old new (OpensWith s Q old) (OnTheWay s.opens (s.slots old) (Some (Commit t)) h h2) (λ i opens. at_end (end i opens)) leaves;
-        now_only = λ i here. end i (left_now Q old new leaves i here);
-      }

@@ -4,11 +4,10 @@ use Rattle.std.specs.Prelude.{ℕ, List, Option}
 use Rattle.rb_base.specs.Moments.{LeavesOnly}
 use Rattle.rb_base.specs.declared.shape.Shape.{Shape}
 use Rattle.rb_base.specs.declared.store.Store.{Ghosts}
-use Rattle.law_crash.specs.Between.{Extends, FoundAtEnd, FoundBetween}
+use Rattle.law_crash.specs.Between.{Extends, FoundAtEnd, FoundBetween, FoundSome}
 use Rattle.law_crash.specs.Images.{HasState}
 use Rattle.rb_model.specs.Book.{Book}
 use Rattle.rb_model.specs.Calls.{Call}
-use Rattle.rb_model.specs.Rows.{last_scn}
 use Rattle.rb_model.specs.State.{State}
 
 -- An image opens to blocks that have a state at the number n, and no more marks than these books.
@@ -19,12 +18,10 @@ pub record RestartsAt {I : Type 0} (opens : Shape → Option ℕ → I → List 
   pub opening : opens h.shape slots i blocks lsn
   pub has : HasState h books n blocks lsn
 
--- it has the whole state
+-- it has the state at some number, from that of the last acknowledged commit on
 abbrev pub Restarts : {I : Type 0} → (Shape → Option ℕ → I → List (List ℕ) → ℕ → Type 0)
-    → Option ℕ
-    → State
-    → I → Type 0
-Restarts opens slots h i = RestartsAt opens slots h.books h (last_scn h.commits) i
+    → Option ℕ → State → I → Type 0
+Restarts opens slots h i = FoundSome (RestartsAt opens slots) h.books h i
 
 -- what a crash leaves at the end of calls, and at some moment on the way
 abbrev pub AtEnd : {I : Type 0} → (Shape → Option ℕ → I → List (List ℕ) → ℕ → Type 0) → Option ℕ

@@ -21,9 +21,11 @@ abbrev pub LaterHasState : Type 0
 LaterHasState = (h h2 : State) (n : ℕ) (blocks : List (List ℕ)) (lsn : ℕ) → Extends h h2
     → n ≤ last_scn h.commits → HasState h h.books n blocks lsn → HasState h2 h2.books n blocks lsn
 
--- A later state has all commits of the earlier one, with their numbers, and no mark that is less.
+-- A later state has all commits of the earlier one, with their numbers, and no mark that is less, and it acknowledges
+-- no fewer.
 abbrev pub LaterHasCommits : Type 0
 LaterHasCommits = (h h2 : State) → Extends h h2 → (last_scn h.commits ≤ last_scn h2.commits)
+    × (h.safe ≤ h2.safe)
     × ((n : ℕ) → n ≤ last_scn h.commits
     → rows_at h2.shape.blocks h2.commits n ≡ rows_at h.shape.blocks h.commits n)
     × ((g : ℕ) → g < h.shape.segments → ((book_at h.books g).writes ≤ (book_at h2.books g).writes)

@@ -1,6 +1,7 @@
 -- What the blocks that a file opens to have of a state of the machine.
 use Rattle.std.specs.Prelude.{◌≡◌, ◌<◌, ◌≤◌, ℕ, List}
 use Rattle.rb_base.specs.declared.shape.Shape.{Shape}
+use Rattle.law_crash.specs.Between.{FoundSome}
 use Rattle.rb_model.specs.Book.{Book, book_at}
 use Rattle.rb_model.specs.Rows.{rows_at}
 use Rattle.rb_model.specs.State.{State}
@@ -18,3 +19,7 @@ pub record HasState (h : State) (books : List Book) (n : ℕ) (blocks : List (Li
   pub logged : lsn ≡ logged_of h.shape blocks
   pub sound : SoundAs h.shape blocks n (rows_at h.shape.blocks h.commits n)
   pub marks : MarksWithin h.shape books blocks
+
+-- They have it at some number, from that of the last acknowledged commit to that of the last.
+abbrev pub HasSome : State → List Book → List (List ℕ) → ℕ → Type 0
+HasSome h books blocks lsn = FoundSome (λ b k n made. HasState k b n made lsn) books h blocks

@@ -1,10 +1,11 @@
 //! What holds of images, as clauses for proofs to cite. Nothing calls it.
 ghost use Rattle.std.specs.Prelude.{◌≡◌, ◌≢◌, ◌≤◌, ℕ, List, Option, Some, false};
 ghost use Rattle.rb_base.specs.declared.ids.Xid.{Xid};
+ghost use Rattle.law_crash.specs.Between.{IsCommit};
 ghost use Rattle.law_crash.specs.Crash.{AtEnd, Restarts, Survives};
 ghost use Rattle.law_crash.specs.Keeps.{BackKeeps, CleanKeeps, CommitKeeps, EndKeeps, WriteKeeps};
 ghost use Rattle.law_crash.specs.ImageLaws.{LaterHasCommits, LaterHasState, StandingHasState, StateIsSeen};
-ghost use Rattle.rb_model.specs.Calls.{Action, Call, Commit, Write};
+ghost use Rattle.rb_model.specs.Calls.{Action, Call, Write};
 ghost use Rattle.rb_model.specs.Rows.{last_scn, rows_at};
 ghost use Rattle.rb_model.specs.State.{State};
 ghost use Rattle.rb_segment.specs.Segments.{commit_scn};
@@ -38,14 +39,14 @@ pub fn keep_laws()
     ensures clean { CleanKeeps }
 {}
 
-/// An image of an engine that goes on restarts to its whole state, and so does one of an engine that a fault stopped in
+/// An image of an engine that goes on restarts to its state, and so does one of an engine that a fault stopped in
 /// a call that is neither a commit nor a write. What calls leave one after the other, the second of an engine that goes
 /// on, is what they leave together.
 pub fn crash_laws<S: Store>()
     ensures whole { (slots : Option ℕ) (fault : Option Call) (h : State) (i : S.image) → h.stopped ≡ false
         → AtEnd S.opens slots fault h i → Restarts S.opens slots h i }
     ensures other { (slots : Option ℕ) (fault : Option Call) (h : State) (i : S.image)
-        → ((s : ℕ) → fault ≢ Some (Commit s))
+        → ((s : ℕ) → ¬ IsCommit s fault)
         → ((s table key : ℕ) (action : Action) → fault ≢ Some (Write s table key action))
         → AtEnd S.opens slots fault h i → Restarts S.opens slots h i }
     ensures joined { (slots : Option ℕ) (first fault : Option Call) (h m h2 : State) (old mid new : S)

@@ -1,4 +1,5 @@
--- The table remembers a state with another queue, and a write that a session waits with: sessions have neither.
+-- The table remembers a state with another queue or other commits acknowledged, and a write that a session waits with:
+-- sessions have none of these.
 use Rattle.std.proofs.Common.{◌≡◌, inl, inr, ◌≤◌, ◌-◌, ◌∙◌, ℕ, List, [], Option, refl, sym, subst, arith, append-nil}
 use Rattle.std.proofs.lemmas.Bool.{cases_eq}
 use Rattle.std.proofs.lemmas.List.{get_or-set_other, get_or-set_same, length-set}
@@ -13,9 +14,9 @@ use Rattle.law_sessions.proofs.Lasting.{Keeps}
 use Rattle.law_sessions.proofs.Tables.{Moves, session_last}
 use Rattle.law_home.specs.Walk.{Env}
 
-module _ (h : State) (queue : List Waiter) (asked : List (Option Asked)) (xids : List Xid) (env : Env) where
+module _ (h : State) (queue : List Waiter) (asked : List (Option Asked)) (safe : ℕ) (xids : List Xid) (env : Env) where
   abbrev Next : State
-  Next = record h { queue = queue; asked = asked }
+  Next = record h { queue = queue; asked = asked; safe = safe }
 
   keeps : Keeps h Next xids xids
   keeps = record { shape = refl; base = refl; rows = refl; more = []; list = sym (append-nil h.commits.list); ids = λ i lt. refl }

@@ -79,11 +79,12 @@ RolledBackIsRemembered = (h h2 : State) (xids : List Xid) (blocks now : List (Li
     → KeepsIds h (env_of h.shape blocks) (env_of h.shape now)
     → Remembers h2 xids (env_of h.shape now) (with_kept table_of s (kept.rolled_back (kept_at table_of s)))
 
--- Another queue, and other writes that sessions wait with.
+-- Another queue, other writes that sessions wait with, and other commits acknowledged.
 abbrev pub QueueIsRemembered : Type 0
-QueueIsRemembered = (h : State) (queue : List Waiter) (asked : List (Option Asked)) (xids : List Xid) (env : Env)
+QueueIsRemembered = (h : State) (queue : List Waiter) (asked : List (Option Asked)) (safe : ℕ) (xids : List Xid)
+    (env : Env)
     (table_of : List KeptSession) → Remembers h xids env table_of
-    → Remembers (record h { queue = queue; asked = asked }) xids env table_of
+    → Remembers (record h { queue = queue; asked = asked; safe = safe }) xids env table_of
 
 -- A write that session s waits with.
 abbrev pub HeldIsRemembered : Type 0

@@ -21,6 +21,7 @@ two = record {
   books = taken 2 1 (taken 1 0 fresh_book) ∷ [];
   queue = [];
   asked = None ∷ None ∷ None ∷ [];
+  safe = 0;
   stopped = false;
 }
 

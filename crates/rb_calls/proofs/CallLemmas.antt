@@ -15,8 +15,8 @@ use Rattle.rb_engine.specs.Worn.{CallNeedsLost, IsWorn}
 use Rattle.law_crash.specs.Crash.{Survives}
 use Rattle.rb_lines.specs.Ran.{Did}
 use Rattle.rb_model.specs.Answers.{answer_of, fetch_answer, write_answer}
-use Rattle.rb_model.specs.Calls.{Answer, Call, Done, End, Given, Marked, Numbered, Refused, MayAnswer, Waits, failed_in, is_fault}
-use Rattle.rb_model.specs.Calls.{Write, Commit, Rollback, SetMode, SetSavepoint, RollbackTo, OpenCursor, Fetch, CloseCursor, Cancel, Marks, Checkpoint}
+use Rattle.rb_model.specs.Calls.{Answer, Call, Done, End, Flushed, Given, Marked, Committed, Numbered, Refused, MayAnswer, Waits, failed_in, is_fault}
+use Rattle.rb_model.specs.Calls.{Write, Commit, CommitLater, Flush, Rollback, SetMode, SetSavepoint, RollbackTo, OpenCursor, Fetch, CloseCursor, Cancel, Marks, Checkpoint}
 use Rattle.rb_model.specs.Change.{Asked}
 use Rattle.rb_model.specs.NextState.{After, unqueued}
 use Rattle.rb_model.specs.Out.{Logged, CallOut, goes_on}
@@ -51,6 +51,8 @@ pub ends_calls : (answer : code.Outcome) (row : Row) → (answer ≡ answers.Row
 ends_calls answers.Done row other marks = refl
 ends_calls (answers.Waits on) row other marks = refl
 ends_calls (answers.Committed number) row other marks = refl
+ends_calls (answers.Numbered number) row other marks = refl
+ends_calls (answers.Flushed number) row other marks = refl
 ends_calls answers.Row row other marks = absurd (other refl)
 ends_calls answers.End row other marks = refl
 ends_calls (answers.Marked seg writes lost) row other marks = absurd (marks seg writes lost refl)
@@ -59,7 +61,9 @@ ends_calls (answers.Refused why) row other marks = refl
 pub on_no_fault : (r : Answer) → goes_on r ≡ true → is_fault r ≡ false
 on_no_fault Done e = refl
 on_no_fault (Waits on) e = refl
+on_no_fault (Committed n) e = refl
 on_no_fault (Numbered n) e = refl
+on_no_fault (Flushed n) e = refl
 on_no_fault (Given key value) e = refl
 on_no_fault End e = refl
 on_no_fault (Marked seg writes lost) e = refl
@@ -71,6 +75,7 @@ pub worn_by : {S : Type 0} (s : Ghosts S) (h : State) (e : EngineView S) (c : Ca
 worn_by s h e (Write who table key action) scn lost needs = needs
 worn_by s h e (Fetch who name) scn lost needs = (needs.0, needs.1)
 worn_by s h e (Commit who) scn lost needs = tt
+worn_by s h e (CommitLater who) scn lost needs = tt
 worn_by s h e (Rollback who) scn lost needs = tt
 worn_by s h e (SetMode who mode) scn lost needs = tt
 worn_by s h e (SetSavepoint who name) scn lost needs = tt
@@ -79,6 +84,7 @@ worn_by s h e (OpenCursor who name table lo hi) scn lost needs = tt
 worn_by s h e (CloseCursor who name) scn lost needs = tt
 worn_by s h e (Cancel who) scn lost needs = tt
 worn_by s h e (Marks seg) scn lost needs = tt
+worn_by s h e Flush scn lost needs = tt
 worn_by s h e Checkpoint scn lost needs = tt
 
 -- the outcome of a write that answers so

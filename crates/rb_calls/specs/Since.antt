@@ -1,5 +1,5 @@
 -- For which states the shell's engine stands, and what may have become of its store over lines of a script.
-use Rattle.std.proofs.Common.{◌≡◌, ◌∙◌, refl, subst, ℕ, false, Option}
+use Rattle.std.proofs.Common.{◌≡◌, ◌∙◌, refl, subst, arith, ℕ, false, Option}
 use Rattle.rb_base.specs.Logs.{Laws}
 use Rattle.rb_base.specs.Moments.{begun}
 use Rattle.rb_base.specs.declared.store.Store.{Ghosts}
@@ -7,13 +7,12 @@ use Rattle.rb_engine.specs.Does.{EngineView, SameStore, Stands}
 use Rattle.rb_engine.specs.Makes.{Makes, StandFor}
 use Rattle.rb_engine.specs.Worn.{IsWorn}
 use Rattle.law_crash.proofs.Crashes.{extends_same, grow_same, survives_on}
-use Rattle.law_crash.proofs.Steps.{left_with, restarts}
-use Rattle.law_crash.specs.Between.{at_end, whole}
+use Rattle.law_crash.proofs.Steps.{left_with, restarts_some}
+use Rattle.law_crash.specs.Between.{at_end, up_to}
 use Rattle.law_crash.specs.Crash.{OnTheWay, Restarts, Survives}
-use Rattle.law_crash.specs.Images.{HasState}
+use Rattle.law_crash.specs.Images.{HasSome}
 use Rattle.rb_model.specs.Calls.{Answer, Call}
 use Rattle.rb_model.specs.Out.{Logged, Outside, outside_by}
-use Rattle.rb_model.specs.Rows.{last_scn}
 use Rattle.rb_model.specs.State.{State}
 
 -- What a call with that answer makes of the machine's blocks. They stand for its state then.
@@ -42,20 +41,19 @@ module _ {S : Type 0} {s : Ghosts S} where
   pub image_has : Laws s → (e : EngineView S) (h : State) → Stands s h e → h.stopped ≡ false → s.keeps
       → (i : s.image) → s.left e.store i → Restarts s.opens (s.slots e.store) h i
   image_has laws e h stands going kept i here =
-      restarts s laws kept h h.books (last_scn h.commits) e.store i stands.shape
-      (left_with s laws kept (HasState h h.books (last_scn h.commits)) e.store
-      ((stands.goes going).holds.images kept) i here)
+      restarts_some s laws kept h h.books e.store i stands.shape
+      (left_with s laws kept (HasSome h h.books) e.store ((stands.goes going).holds.images kept) i here)
 
   pub since_same : (e : EngineView S) (m : Logged) → (s.keeps → Laws s) → StandsAs s e m
       → m.state.stopped ≡ false → IsSince s e e m m
   since_same e m laws is going = record {
     same = record { shape = refl; slots = refl };
     crash = λ kept. record {
-      extends = extends_same m.state m.state refl refl (grow_same m.state.shape m.state.books);
+      extends = extends_same m.state m.state refl refl (grow_same m.state.shape m.state.books) (omega arith);
       any_moment = begun s.moment s.left_since e.store (OnTheWay s.opens (s.slots e.store) m.fault m.state m.state)
-          (λ i left. at_end (whole (image_has (laws kept) e m.state is.engine going kept i
+          (λ i left. at_end (up_to (image_has (laws kept) e m.state is.engine going kept i
           ((laws kept).only_now e.store i kept left))));
-      now_only = λ i here. whole (image_has (laws kept) e m.state is.engine going kept i here);
+      now_only = λ i here. up_to (image_has (laws kept) e m.state is.engine going kept i here);
     };
     still = λ on. refl;
   }

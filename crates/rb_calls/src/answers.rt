@@ -3,7 +3,8 @@ ghost use Rattle.std.specs.Prelude.{◌≡◌, ℕ, Option, None, Some};
 ghost use Rattle.rb_base.specs.Counts.{err_is};
 ghost use Rattle.rb_calls.specs.Fits.{FitsCaller};
 ghost use Rattle.rb_model.specs.Answers.{answer_of, write_answer, plain_answer, commit_answer, fetch_answer};
-ghost use Rattle.rb_model.specs.Answers.{marks_answer};
+ghost use Rattle.rb_model.specs.Answers.{flush_answer, marks_answer};
+ghost use Rattle.rb_model.specs.Calls as machine;
 ghost use Rattle.rb_model.specs.Calls.{is_disk_fault as is_fault_of_disk, is_fault};
 
 use rb_model::{Fetched, Marks, Outcome, Refusal, Row, Wrote};
@@ -21,15 +22,40 @@ pub fn answer_to_write(outcome: Result<Wrote, Refusal>) -> Outcome
     }
 }
 
-/// The answer of a commit.
+/// The answer of a commit that lasts.
 pub fn answer_to_commit(outcome: Result<Option<u64>, Refusal>) -> Outcome
-    ensures answer { (row : Row) → answer_of result row ≡ commit_answer outcome }
+    ensures answer { (row : Row) → answer_of result row ≡ commit_answer machine.Committed outcome }
     ensures fault { (row : Row) → is_fault (answer_of result row) ≡ err_is is_fault_of_disk outcome }
     ensures fits { (s : ℕ) → FitsCaller (Some s) result }
 {
     match outcome {
         Ok(None) => Outcome::Done,
         Ok(Some(number)) => Outcome::Committed { number },
+        Err(why) => Outcome::Refused { why },
+    }
+}
+
+/// The answer of a commit that waits to be made last.
+pub fn answer_to_commit_later(outcome: Result<Option<u64>, Refusal>) -> Outcome
+    ensures answer { (row : Row) → answer_of result row ≡ commit_answer machine.Numbered outcome }
+    ensures fault { (row : Row) → is_fault (answer_of result row) ≡ err_is is_fault_of_disk outcome }
+    ensures fits { (s : ℕ) → FitsCaller (Some s) result }
+{
+    match outcome {
+        Ok(None) => Outcome::Done,
+        Ok(Some(number)) => Outcome::Numbered { number },
+        Err(why) => Outcome::Refused { why },
+    }
+}
+
+/// The answer of a flush.
+pub fn answer_to_flush(outcome: Result<u64, Refusal>) -> Outcome
+    ensures answer { (row : Row) → answer_of result row ≡ flush_answer outcome }
+    ensures fault { (row : Row) → is_fault (answer_of result row) ≡ err_is is_fault_of_disk outcome }
+    ensures fits { FitsCaller None result }
+{
+    match outcome {
+        Ok(number) => Outcome::Flushed { number },
         Err(why) => Outcome::Refused { why },
     }
 }

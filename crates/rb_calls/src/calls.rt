@@ -9,7 +9,8 @@ ghost use Rattle.rb_model.specs.Lines.{call_of, caller, most_calls};
 ghost use Rattle.rb_script.specs.Commands.{asked_by, command_of};
 
 use crate::answers::{
-    answer_to_call, answer_to_commit, answer_to_fetch, answer_to_marks, answer_to_write,
+    answer_to_call, answer_to_commit, answer_to_commit_later, answer_to_fetch, answer_to_flush,
+    answer_to_marks, answer_to_write,
 };
 use rb_base::{Shape, Store};
 use rb_engine::Engine;
@@ -56,6 +57,7 @@ fn answer_to_request<T: Store>(
         Request::Write { t, k, op } => answer_to_write(engine.write(s, *t, *k, *op)),
         Request::Lock { t, k } => answer_to_write(engine.lock(s, *t, *k)),
         Request::Commit => answer_to_commit(engine.commit(s)),
+        Request::CommitLater => answer_to_commit_later(engine.commit_later(s)),
         Request::Rollback => answer_to_call(engine.rollback(s)),
         Request::Set { mode } => answer_to_call(engine.set(s, *mode)),
         Request::Savepoint { name } => answer_to_call(engine.savepoint(s, name)),
@@ -84,6 +86,7 @@ pub fn answer<T: Store>(
     match command {
         Command::Session { s, request } => answer_to_request(engine, *s, request, row),
         Command::Marks => answer_of_segment(engine, k),
+        Command::Flush => answer_to_flush(engine.flush()),
         Command::Checkpoint => answer_to_call(engine.checkpoint()),
     }
 }

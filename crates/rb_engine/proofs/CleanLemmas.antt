@@ -181,7 +181,7 @@ module _ {S : Type 0} (s : Ghosts S) where
           count = 0;
           few = omega arith;
           lsn = let n = logs.number refl in omega (arith, n);
-          survives = λ before keeps. survives_same s told laws h h xids old new true serves.shape refl refl refl serves.holds logs keeps;
+          survives = λ before keeps. survives_same s told laws h h xids old new true serves.shape refl refl refl refl serves.holds logs keeps;
         }
 
     module _ (g : ℕ) (on : IsOnTheWay h.shape m g) where
@@ -301,7 +301,7 @@ module _ {S : Type 0} (s : Ghosts S) where
           few = clean.few;
           lsn = let n = logs.number refl in let k = clean.lsn in omega (arith, n, k);
           survives = λ before keeps. survives_on s (s.slots old) h h h old mid new serves.going (clean.survives before keeps)
-              (subst (λ (k : Option ℕ). Survives s k before h h mid new) slots (survives_same s told laws h h xids mid new true (shape ∙ serves.shape) refl refl refl clean.holds logs keeps));
+              (subst (λ (k : Option ℕ). Survives s k before h h mid new) slots (survives_same s told laws h h xids mid new true (shape ∙ serves.shape) refl refl refl refl clean.holds logs keeps));
         }
 
     -- A call that failed, behind a cleaning.

@@ -5,7 +5,7 @@ use Rattle.std.proofs.lemmas.Bool.{cases_Bool, false≢true}
 use Rattle.std.specs.Result.{is_err}
 use Rattle.rb_base.specs.Blocks.{block_of, header_block}
 use Rattle.rb_base.specs.Counts.{err_is}
-use Rattle.rb_base.specs.Logs.{Laws, Logs, LogsBy, no_logs}
+use Rattle.rb_base.specs.Logs.{Flushes, Laws, Logs, LogsBy, no_logs}
 use Rattle.rb_base.specs.declared.ids.Xid.{Xid}
 use Rattle.rb_base.specs.declared.store.Store.{Ghosts}
 use Rattle.rb_engine.specs.Checks.{Refuses}
@@ -15,14 +15,15 @@ use Rattle.rb_engine.proofs.QueueLemmas.{knows_same}
 use Rattle.law_crash.specs.Between.{MarksGrow}
 use Rattle.law_crash.specs.Crash.{Survives}
 use Rattle.law_crash.specs.Holds.{Holds}
-use Rattle.law_crash.specs.Images.{HasState}
-use Rattle.law_crash.proofs.Crashes.{grow_same, has_later}
+use Rattle.law_crash.specs.Images.{HasSome}
+use Rattle.law_crash.proofs.CommitHeld.{holds_flushed}
+use Rattle.law_crash.proofs.Crashes.{extends_same, grow_same, some_later}
 use Rattle.law_crash.proofs.Steps.{keeps_on, none_each, read_has, survives_going}
 use Rattle.rb_model.specs.Book.{book_at}
 use Rattle.rb_model.specs.Calls.{Answer, Call, Fetch, Marked, Refused, MayAnswer, early_tests, failed_in, is_disk_fault, is_fault, none_applies}
 use Rattle.rb_model.specs.NextState.{After, Grows, with_cursors}
-use Rattle.rb_model.specs.Rows.{last_scn, rows_at}
-use Rattle.rb_model.specs.State.{Cursor, Session, State, session_of, session_own}
+use Rattle.rb_model.specs.Rows.{last_scn}
+use Rattle.rb_model.specs.State.{Cursor, Session, State, all_safe, session_of, session_own}
 use Rattle.rb_model.specs.declared.refusal.Refusal.{Refusal}
 use Rattle.rb_model.specs.declared.refusal.Refusal.TheVariants.{DiskFault, TooOld}
 use Rattle.rb_model.proofs.Stops.{after_shape, after_stops, fine_stays, other_refusal}
@@ -34,6 +35,7 @@ use Rattle.law_blocks.specs.States.{BlocksStand}
 use Rattle.law_blocks.proofs.SegmentRead.{header_is}
 use Rattle.rb_steps.proofs.Finishing.{cursors_free}
 use Rattle.law_write.proofs.Told as told
+use Rattle.law_sessions.proofs.Queues.{queue_remembered}
 use Rattle.law_sessions.specs.Views.{Remembers}
 
 -- no call changes how many sessions there are
@@ -92,26 +94,22 @@ module _ {S : Type 0} (s : Ghosts S) where
   }
 
   module _ (told : s.tells) (laws : Laws s) where
-    -- Calls that gave no group leave a state with the same commits and books.
-    pub survives_same : {Between : S → S → Type 0} {fault : Option Call} → (h h2 : State) (xids : List Xid) (old new : S) (going : Bool) → s.shape_of old ≡ h.shape → h2.shape ≡ h.shape → h2.commits ≡ h.commits → h2.books ≡ h.books → Holds s h xids old → LogsBy s Between old new [] going
-        → s.keeps → Survives s (s.slots old) fault h h2 old new
-    survives_same h h2 xids old new going shape shapes commits books holds logs keeps =
-        let P : List (List ℕ) → ℕ → Type 0 = HasState h h.books (last_scn h.commits) in
-        let Q : List (List ℕ) → ℕ → Type 0 = HasState h2 h2.books (last_scn h2.commits) in
+    -- Calls that gave no group leave a state with the same commits, books and acknowledgements.
+    pub survives_same : {Between : S → S → Type 0} {fault : Option Call} → (h h2 : State) (xids : List Xid) (old new : S) (going : Bool) → s.shape_of old ≡ h.shape → h2.shape ≡ h.shape → h2.commits ≡ h.commits → h2.books ≡ h.books → h2.safe ≡ h.safe → Holds s h xids old
+        → LogsBy s Between old new [] going → s.keeps → Survives s (s.slots old) fault h h2 old new
+    survives_same h h2 xids old new going shape shapes commits books safe holds logs keeps =
+        let P : List (List ℕ) → ℕ → Type 0 = HasSome h h.books in
         let grow = subst (λ l. MarksGrow h.shape h.books l) (sym books) (grow_same h.shape h.books) in
-        let so : (b : List (List ℕ)) (n : ℕ) → P b n → Q b n = λ b n has.
-        subst (λ (m : ℕ). HasState h2 h2.books m b n) (ap last_scn (sym commits))
-        (has_later h h2 h.books h2.books (last_scn h.commits) b n shapes (ap (λ c. rows_at h.shape.blocks c (last_scn h.commits)) commits) grow has) in
-        survives_going s laws keeps h h2 old new [] shape shapes commits grow (holds.images keeps) going logs
-        (none_each s laws keeps Q (s.blocks old) (s.lsn old) (so (s.blocks old) (s.lsn old) (read_has s laws keeps P old (holds.images keeps))))
+        let stays = extends_same h h2 shapes commits grow (omega (arith, safe)) in
+        survives_going s laws keeps h h2 old new [] shape stays (omega (arith, safe)) (holds.images keeps) going logs
+        (none_each s laws keeps (HasSome h2 h2.books) (s.blocks old) (s.lsn old) (some_later h h2 h.books h2.books (s.blocks old) (s.lsn old) stays (omega (arith, safe)) grow (read_has s laws keeps P old (holds.images keeps))))
 
     -- The store has a state that differs in what one session has beside its changes.
     pub holds_session : (h : State) (who : ℕ) (xids : List Xid) (store : S) (session : Session) → (1 ≤ who) × (who ≤ length h.sessions) → session.own ≡ session_own h who → Holds s h xids store → Holds s (with_session h who session) xids store
     holds_session h who xids store session there own holds =
         let h2 = with_session h who session in
-        let P : List (List ℕ) → ℕ → Type 0 = HasState h h.books (last_scn h.commits) in
-        let Q : List (List ℕ) → ℕ → Type 0 = HasState h2 h2.books (last_scn h2.commits) in
-        let so : (b : List (List ℕ)) (n : ℕ) → P b n → Q b n = λ b n has. has_later h h2 h.books h2.books (last_scn h.commits) b n refl refl (grow_same h.shape h.books) has in
+        let stays = extends_same h h2 refl refl (grow_same h.shape h.books) (omega arith) in
+        let so : (b : List (List ℕ)) (n : ℕ) → HasSome h h.books b n → HasSome h2 h2.books b n = λ b n has. some_later h h2 h.books h2.books b n stays (omega arith) (grow_same h.shape h.books) has in
         record {
           blocks = cursors_free h who session there own xids (s.blocks store) holds.blocks;
           logged = holds.logged;
@@ -121,7 +119,7 @@ module _ {S : Type 0} (s : Ghosts S) where
     -- Calls that gave no group and went well leave what the store has.
     pub holds_logged : {Between : S → S → Type 0} (h : State) (xids : List Xid) (old new : S) → Holds s h xids old → LogsBy s Between old new [] true → Holds s h xids new
     holds_logged h xids old new holds logs =
-        let P : List (List ℕ) → ℕ → Type 0 = HasState h h.books (last_scn h.commits) in
+        let P : List (List ℕ) → ℕ → Type 0 = HasSome h h.books in
         let same : s.blocks new ≡ s.blocks old = logs.blocks told refl in
         let number : s.lsn new ≡ s.lsn old = omega (arith, logs.number refl) in record {
           blocks = subst (BlocksStand h xids) (sym same) holds.blocks;
@@ -149,7 +147,31 @@ module _ {S : Type 0} (s : Ghosts S) where
     does_loaded h call answer old new st reply after grows retains memory logs same =
         does_by h h call answer old new 0 st reply after (λ _. retains) (subst (Knows h) (sym memory) st.knows) same
         (λ going. (grows, (logs going).number refl, goes_logged h old new (st.goes going) (logs going) (ap (λ (k : Kept). k.sessions) memory) (ap (λ (k : Kept). k.copies) memory)))
-        (λ before going keeps. survives_same h h (st.goes going).xids old.store new.store true st.shape refl refl refl (st.goes going).holds (logs going) keeps)
+        (λ before going keeps. survives_same h h (st.goes going).xids old.store new.store true st.shape refl refl refl refl (st.goes going).holds (logs going) keeps)
+
+    -- A call that makes last all that waits: every commit is acknowledged then.
+    pub does_flushed : (h : State) (call : Call) (answer : Answer) (old new : EngineView S) → Stands s h old → h.stopped ≡ false
+        → MayAnswer h (s.lsn old.store) call answer → After h call answer (all_safe h) → Grows h call answer 0 → Retained h call answer (all_safe h)
+        → new.memory ≡ old.memory → Flushes s old.store new.store [] true → (s.keeps → s.pending new.store ≡ []) → SameStore s old.store new.store → Does s h call answer old new
+    does_flushed h call answer old new st going reply after grows retains memory logs none same =
+        let goes = st.goes going in
+        let now = all_safe h in
+        let both : (fault : Option Call) → Holds s now goes.xids new.store × (s.keeps → Survives s (s.slots old.store) fault h now old.store new.store) = λ fault. holds_flushed s laws h goes.xids old.store new.store st.shape goes.holds told fault logs none in
+        does_by h now call answer old new 0 st reply after (λ _. retains)
+        (subst (Knows now) (sym memory) (knows_on h now old.memory old.memory st.knows refl refl refl refl refl (λ on. knows_same h now old.memory old.memory refl refl refl refl (st.knows.queue on)))) same
+        (λ _. (
+          grows,
+          logs.number refl,
+          record {
+            xids = goes.xids;
+            holds = (both None).0;
+            remembers = subst (λ (k : Kept). Remembers now goes.xids (env_of h.shape (s.blocks new.store)) k.sessions) (sym memory)
+                (queue_remembered h h.queue h.asked now.safe goes.xids (env_of h.shape (s.blocks new.store)) old.memory.sessions
+                (remembers_logged h goes.xids old.memory.sessions old.store new.store logs goes.remembers));
+            copies = copies_same h now goes.xids (s.blocks old.store) (s.blocks new.store) old.memory.copies new.memory.copies refl refl (logs.blocks told refl) (ap (λ (k : Kept). k.copies) memory) goes.copies;
+          },
+        ))
+        (λ before _ keeps. (both (failed_in call answer before)).1 keeps)
 
     -- A fault of the disk, in calls that gave no group. What memory has is known of the state that is stopped.
     pub does_fault_known : (h : State) (call : Call) (old new : EngineView S) → Stands s h old
@@ -169,7 +191,7 @@ module _ {S : Type 0} (s : Ghosts S) where
     does_fault h call old new st going early stops same survives = does_fault_known h call old new st early (knows_stop h old.memory new.memory st.knows stops) same survives
 
     pub fault_survives : {Between : S → S → Type 0} {fault : Option Call} → (h : State) (xids : List Xid) (old new : S) → s.shape_of old ≡ h.shape → Holds s h xids old → LogsBy s Between old new [] false → s.keeps → Survives s (s.slots old) fault h (record h { stopped = true }) old new
-    fault_survives h xids old new shape holds logs keeps = survives_same h (record h { stopped = true }) xids old new false shape refl refl refl holds logs keeps
+    fault_survives h xids old new shape holds logs keeps = survives_same h (record h { stopped = true }) xids old new false shape refl refl refl refl holds logs keeps
 
     -- A call that changed what one session has beside its changes, and perhaps loaded blocks.
     pub does_session : (h : State) (call : Call) (answer : Answer) (who : ℕ) (session : Session) (old new : EngineView S) → Stands s h old → h.stopped ≡ false
@@ -194,7 +216,7 @@ module _ {S : Type 0} (s : Ghosts S) where
             copies = copies_same h h2 goes.xids (s.blocks old.store) (s.blocks new.store) old.memory.copies new.memory.copies refl refl (logs.blocks told refl) copies goes.copies;
           },
         ))
-        (λ before _ keeps. survives_same h h2 goes.xids old.store new.store true st.shape refl refl refl goes.holds logs keeps)
+        (λ before _ keeps. survives_same h h2 goes.xids old.store new.store true st.shape refl refl refl refl goes.holds logs keeps)
 
     -- One that changed its cursors alone.
     pub does_cursors : (h : State) (call : Call) (answer : Answer) (who : ℕ) (cursors : List Cursor) (old new : EngineView S) → Stands s h old → h.stopped ≡ false

@@ -266,7 +266,7 @@ module _ {S : Type 0} (s : Ghosts S) (laws : Laws s) (h : State) (old : EngineVi
           },
         ))
         (λ before _ keeps. survives_on s (s.slots old.store) h h h2 old.store new.store new.store going (clean.survives before keeps)
-        (subst (λ (k : Option ℕ). Survives s k before h h2 new.store new.store) same.slots (survives_same s st.told laws h h2 goes.xids new.store new.store true (same.shape ∙ st.shape) refl refl refl clean.holds (no_logs s new.store runs) keeps)))
+        (subst (λ (k : Option ℕ). Survives s k before h h2 new.store new.store) same.slots (survives_same s st.told laws h h2 goes.xids new.store new.store true (same.shape ∙ st.shape) refl refl refl refl clean.holds (no_logs s new.store runs) keeps)))
 
     pub does_end : result ≡ Ok fetched.End → new.memory ≡ with_copies new.memory.copies old.memory → Does s h (machine.Fetch who name) machine.End old new
     does_end is memory =

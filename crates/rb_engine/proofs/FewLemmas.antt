@@ -3,9 +3,10 @@
 use Rattle.std.proofs.Common.{◌*◌, ◌≡◌, ◌≤◌, ◌+◌, ◌^◌, ⊎_elim, ℕ, zero, suc, List, length, arith}
 use Rattle.rb_ring.specs.declared.extents.TheConstants.{EXTENTS, EXTENT_RECORDS}
 use Rattle.rb_base.specs.declared.ids.Xid.{Xid}
-use Rattle.rb_model.specs.Calls.{Answer, Call, Cancel, Checkpoint, CloseCursor, Commit, Done, End, Fetch, Given, HasNoSlot}
-use Rattle.rb_model.specs.Calls.{Marked, Marks, Numbered, OpenCursor, Owned, Refused, Rollback, RollbackTo, SetMode, SetSavepoint, Waits, Write}
-use Rattle.rb_model.specs.NextState.{Ends, Grows, GrowsBy, ReadsBy, RefusedBy}
+use Rattle.rb_model.specs.Calls.{Answer, Call, Cancel, Checkpoint, CloseCursor, Commit, CommitLater, Done, End, Fetch, Flush}
+use Rattle.rb_model.specs.Calls.{Flushed, Given, HasNoSlot, Numbered}
+use Rattle.rb_model.specs.Calls.{Marked, Marks, Committed, OpenCursor, Owned, Refused, Rollback, RollbackTo, SetMode, SetSavepoint, Waits, Write}
+use Rattle.rb_model.specs.NextState.{CommitGrows, Ends, Grows, GrowsBy, ReadsBy, RefusedBy}
 use Rattle.rb_model.specs.State.{State, session_own}
 use Rattle.rb_model.specs.declared.refusal.Refusal.{Refusal}
 use Rattle.rb_model.specs.declared.refusal.Refusal.TheVariants as why
@@ -23,12 +24,16 @@ module _ (h : State) (xids : List Xid) (blocks : List (List ℕ)) (stand : Block
       (λ (none : HasNoSlot h s × (n ≡ 0)). let is = none.1 in omega (arith, is))
       ends
 
-  granted_few : (call : Call) (n : ℕ) → GrowsBy h call n → n ≤ 2 ^ 14
-  granted_few (Write s table key action) n is = omega (arith, is)
-  granted_few (Commit s) n grows = ⊎_elim
+  commit_few : (s n : ℕ) → CommitGrows h s n → n ≤ 2 ^ 14
+  commit_few s n grows = ⊎_elim
       (λ one. let is : n ≡ 1 = one.1 in omega (arith, is))
       (λ none. ends_few s 0 n (omega arith) none.1)
       grows
+
+  granted_few : (call : Call) (n : ℕ) → GrowsBy h call n → n ≤ 2 ^ 14
+  granted_few (Write s table key action) n is = omega (arith, is)
+  granted_few (Commit s) n grows = commit_few s n grows
+  granted_few (CommitLater s) n grows = commit_few s n grows
   granted_few (Rollback s) n ends = ends_few s (length (session_own h s)) n (own_few s) ends
   granted_few (SetMode s mode) n is = omega (arith, is)
   granted_few (SetSavepoint s name) n is = omega (arith, is)
@@ -38,12 +43,14 @@ module _ (h : State) (xids : List Xid) (blocks : List (List ℕ)) (stand : Block
   granted_few (CloseCursor s name) n is = omega (arith, is)
   granted_few (Cancel s) n is = omega (arith, is)
   granted_few (Marks seg) n is = omega (arith, is)
+  granted_few Flush n is = omega (arith, is)
   granted_few Checkpoint n is = omega (arith, is)
 
   read_few : (call : Call) (n : ℕ) → ReadsBy h call n → n ≤ 2 ^ 14
   read_few (Fetch s name) n le = let few = stand.tell.in_range.few_blocks.1 in omega (arith, le, few)
   read_few (Write s table key action) n is = omega (arith, is)
   read_few (Commit s) n is = omega (arith, is)
+  read_few (CommitLater s) n is = omega (arith, is)
   read_few (Rollback s) n is = omega (arith, is)
   read_few (SetMode s mode) n is = omega (arith, is)
   read_few (SetSavepoint s name) n is = omega (arith, is)
@@ -52,6 +59,7 @@ module _ (h : State) (xids : List Xid) (blocks : List (List ℕ)) (stand : Block
   read_few (CloseCursor s name) n is = omega (arith, is)
   read_few (Cancel s) n is = omega (arith, is)
   read_few (Marks seg) n is = omega (arith, is)
+  read_few Flush n is = omega (arith, is)
   read_few Checkpoint n is = omega (arith, is)
 
   refused_few : (call : Call) (w : Refusal) (n : ℕ) → RefusedBy h call w n → n ≤ 2 ^ 14
@@ -81,7 +89,9 @@ module _ (h : State) (xids : List Xid) (blocks : List (List ℕ)) (stand : Block
 
   pub grows_few : (call : Call) (r : Answer) (n : ℕ) → Grows h call r n → n ≤ 2 ^ 14
   grows_few call Done n grows = granted_few call n grows
+  grows_few call (Committed number) n grows = granted_few call n grows
   grows_few call (Numbered number) n grows = granted_few call n grows
+  grows_few call (Flushed number) n grows = granted_few call n grows
   grows_few call (Waits on) n is = omega (arith, is)
   grows_few call (Given key value) n reads = read_few call n reads
   grows_few call End n reads = read_few call n reads

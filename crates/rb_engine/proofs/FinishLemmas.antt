@@ -1,5 +1,5 @@
 -- What a commit leaves, from the groups of its step, and what the end of a transaction without a slot does.
-use Rattle.std.proofs.Common.{◌≡◌, inl, ◌<◌, ◌≤◌, ◌+◌, ◌-◌, ◌^◌, ◌∷◌, ◌++◌, nat_le, ℕ, true, false, not, min, List, [], length, map, Some, None, Result, Ok, Err, OnOk, refl, sym, ◌∙◌, ap, subst, arith, append-nil, length-append}
+use Rattle.std.proofs.Common.{◌≡◌, inl, inr, ◌<◌, ◌≤◌, ◌+◌, ◌*◌, ◌-◌, ◌^◌, ◌∷◌, ◌++◌, nat_le, ℕ, true, false, not, min, List, [], length, map, Option, Some, None, Result, Ok, Err, OnOk, refl, sym, ◌∙◌, ap, subst, arith, append-nil, length-append}
 use Rattle.rb_sessions.specs.declared.sessions.TheConstants.{SESSIONS}
 use Rattle.rb_engine.proofs.CopyLemmas.{copies_committed, copies_same}
 use Rattle.std.proofs.lemmas.Bool.{le-leb, and_from}
@@ -12,20 +12,26 @@ use Rattle.rb_base.specs.Logs.{Flushes, Laws, LogsBy, more_flushes, no_logs}
 use Rattle.rb_base.specs.declared.ids.Xid.{Xid}
 use Rattle.rb_base.specs.declared.store.Store.{Ghosts}
 use Rattle.rb_engine.specs.Does.{Does, EngineView, Goes, Keeps, Kept, Knows, SameStore, Stands}
-use Rattle.rb_engine.specs.Finishing.{Commits, Fails}
+use Rattle.rb_engine.specs.Finishing.{Commits, Fails, commit_call, lasting, number_told}
+use Rattle.rb_engine.specs.Makes.{MadeReading}
+use Rattle.rb_engine.specs.declared.finish.Lasting.{Lasting}
+use Rattle.rb_engine.specs.declared.finish.Lasting.TheVariants.{AtOnce, Later}
 use Rattle.rb_engine.proofs.DoesLemmas.{does_by, does_fault, holds_session, knows_on, survives_same}
 use Rattle.rb_engine.proofs.QueueLemmas.{all_asked, holds_queue, knows_freed, survives_queue}
 use Rattle.law_crash.specs.Crash.{Survives}
 use Rattle.law_crash.specs.Holds.{Holds}
-use Rattle.law_crash.specs.Made.{CommitMade, GivesOne}
-use Rattle.law_crash.proofs.CommitHeld.{commit_fault, holds_committed}
+use Rattle.law_crash.specs.Between.{IsCommit}
+use Rattle.law_crash.specs.Made.{CommitMade, GivesOne, KeepsIds}
+use Rattle.law_crash.proofs.Beside.{blocks_stand}
+use Rattle.law_crash.proofs.CommitHeld.{commit_fault, holds_flushed, holds_later}
+use Rattle.law_crash.proofs.Crashes.{survives_on}
 use Rattle.law_crash.proofs.Owners.{OwnedBy, none_owned, owned_by}
-use Rattle.rb_model.specs.Calls.{Call, Commit, Done, HasNoSlot, Numbered, Refused, MayAnswer, early_tests, is_empty, none_applies, session_tests}
+use Rattle.rb_model.specs.Calls.{Action, Call, Done, HasNoSlot, Owned, Refused, MayAnswer, Write, early_tests, failed_in, is_empty, none_applies, session_tests}
 use Rattle.rb_model.specs.Change.{Change}
-use Rattle.rb_model.specs.NextState.{After, GrowsBy, committed, ended, freeing, not_present}
+use Rattle.rb_model.specs.NextState.{After, Ends, EndsAs, Grows, GrowsBy, committed, cursors_of, ended, freeing, not_present}
 use Rattle.rb_model.specs.Queue.{freed_by, is_queued}
 use Rattle.rb_model.specs.Rows.{last_scn}
-use Rattle.rb_model.specs.State.{Cursor, State, is_session, no_session, session_own}
+use Rattle.rb_model.specs.State.{Cursor, State, all_safe, is_session, no_session, session_own}
 use Rattle.rb_model.specs.declared.refusal.Refusal.TheVariants.{DiskFault}
 use Rattle.rb_segment.specs.Calls.{Runs}
 use Rattle.rb_sessions.specs.Kept.{KeptSession, kept_at, with_kept}
@@ -37,7 +43,10 @@ use Rattle.law_blocks.proofs.SegmentRead.{header_is}
 use Rattle.rb_steps.proofs.Finishing.{scn_is}
 use Rattle.law_write.specs.Verdict.{IsOwnId}
 use Rattle.law_sessions.specs.Views.{Remembers}
+use Rattle.law_blocks.specs.Groups.{IsCommitted}
 use Rattle.law_sessions.proofs.Ended.{committed_remembered}
+use Rattle.law_sessions.proofs.Queues.{queue_remembered}
+use Rattle.rb_base.specs.declared.sizes.TheConstants.{SLOTS}
 
 -- the header of a segment, read as the steps read it
 pub runs_in : (h : State) (blocks : List (List ℕ)) (x : Xid) → Runs (segments_of h.shape blocks x.seg).header x → Runs (header_in h.shape blocks x.seg) x
@@ -55,22 +64,89 @@ pub no_items : (l : List Change) → length l ≡ 0 → l ≡ []
 no_items [] e = refl
 no_items (c ∷ l) e = absurd (omega (arith, e))
 
+-- Of both calls that commit.
+
+is_commit : (l : Lasting) (who : ℕ) → IsCommit who (Some (commit_call l who))
+is_commit AtOnce who = inl refl
+is_commit Later who = inr refl
+
+pub early_commit : (l : Lasting) (h : State) (who : ℕ) → early_tests h (commit_call l who) ≡ session_tests h who
+early_commit AtOnce h who = refl
+early_commit Later h who = refl
+
+may_commit : (l : Lasting) (h : State) (logged who n : ℕ) → is_empty (session_own h who) ≡ false → n ≡ last_scn h.commits + 1 → none_applies (session_tests h who) ≡ true → MayAnswer h logged (commit_call l who) (number_told l n)
+may_commit AtOnce h logged who n full next early = MayAnswer.later [] early refl (rw (full, next) refl)
+may_commit Later h logged who n full next early = MayAnswer.later [] early refl (rw (full, next) refl)
+
+after_commit : (l : Lasting) (h : State) (who n g i : ℕ) → is_empty (session_own h who) ≡ false → Owned h who g i → After h (commit_call l who) (number_told l n) (lasting l (freeing (committed h who g i) who))
+after_commit AtOnce h who n g i full owned = inl (full, (g, i, owned, refl))
+after_commit Later h who n g i full owned = inl (full, (g, i, owned, refl))
+
+grows_commit : (l : Lasting) (h : State) (who n : ℕ) → is_empty (session_own h who) ≡ false → Grows h (commit_call l who) (number_told l n) 1
+grows_commit AtOnce h who n full = inl (full, refl)
+grows_commit Later h who n full = inl (full, refl)
+
+no_failure : (l : Lasting) (who n : ℕ) (before : Option Call) → failed_in (commit_call l who) (number_told l n) before ≡ before
+no_failure AtOnce who n before = refl
+no_failure Later who n before = refl
+
+pub reads_nothing : (l : Lasting) (h : State) (who lsn : ℕ) (blocks : List (List ℕ)) → MadeReading h (commit_call l who) ⊥ lsn blocks blocks
+reads_nothing AtOnce h who lsn blocks = refl
+reads_nothing Later h who lsn blocks = refl
+
+-- and where the session has no changes
+pub may_end : (l : Lasting) (h : State) (logged who : ℕ) → is_empty (session_own h who) ≡ true → none_applies (session_tests h who) ≡ true → MayAnswer h logged (commit_call l who) Done
+may_end AtOnce h logged who none early = MayAnswer.later [] early refl (rw none refl)
+may_end Later h logged who none early = MayAnswer.later [] early refl (rw none refl)
+
+pub after_end : (l : Lasting) (h h2 : State) (who : ℕ) → is_empty (session_own h who) ≡ true → EndsAs h who (cursors_of h who) h2 → After h (commit_call l who) Done h2
+after_end AtOnce h h2 who none ends = inr (none, ends)
+after_end Later h h2 who none ends = inr (none, ends)
+
+pub grows_end : (l : Lasting) (h : State) (who n : ℕ) → is_empty (session_own h who) ≡ true → Ends h who 0 n → GrowsBy h (commit_call l who) n
+grows_end AtOnce h who n none ends = inr (none, ends)
+grows_end Later h who n none ends = inr (none, ends)
+
 module _ {S : Type 0} (s : Ghosts S) (told : s.tells) (laws : Laws s) (h : State) (xids : List Xid) (who : ℕ) (x : Xid) (old : S) (shape : s.shape_of old ≡ h.shape) (holds : Holds s h xids old)
     (some : 0 < length (session_own h who)) where
-  pub commits_failed : {Between : S → S → Type 0} (new : S) (groups : List (List Patch)) → length groups ≤ 1 → LogsBy s Between old new groups false → (1 ≤ length groups → CommitMade h xids who x (s.blocks old) (after_groups (s.lsn old + 1) groups (s.blocks old))) → Fails s (Some (Commit who)) h old new
-  commits_failed new groups few logs made keeps = commit_fault s told laws h xids who x old shape holds new groups few logs made (some_own (session_own h who) some) keeps
+  pub commits_failed : {Between : S → S → Type 0} (l : Lasting) (new : S) (groups : List (List Patch)) → length groups ≤ 1 → LogsBy s Between old new groups false → (1 ≤ length groups → CommitMade h xids who x (s.blocks old) (after_groups (s.lsn old + 1) groups (s.blocks old)))
+      → Fails s (Some (commit_call l who)) h old new
+  commits_failed l new groups few logs made keeps = commit_fault s told laws h xids who x old shape holds (Some (commit_call l who)) new groups (is_commit l who) few logs made (some_own (session_own h who) some) keeps
 
-  pub commits_done : {T E : Type 0} (mid new : S) → GivesOne s old mid true (λ now. CommitMade h xids who x (s.blocks old) now) → (r : Result T E) → Flushes s mid new [] (not (is_err r)) → (s.keeps → OnOk r (s.pending new ≡ [])) → Commits s h xids who x old new (not (is_err r))
-  commits_done mid new one (Ok value) flush none =
-      let all = holds_committed s told laws h xids who x old shape holds None mid new one flush none in
-      let number : s.lsn new ≡ s.lsn old + 1 = let a = one.logs.number refl in let b = flush.number refl in let k = one.one refl in omega (arith, a, b, k) in
+  -- the commit's group is given, and waits
+  pub commits_later : (mid : S) → GivesOne s old mid true (λ now. CommitMade h xids who x (s.blocks old) now) → Commits s Later h xids who x old mid true
+  commits_later mid one =
+      let next = committed h who x.seg x.slot in
+      let held : (before : Option Call) → Holds s next (xids ++ x ∷ []) mid × (s.keeps → Survives s (s.slots old) before h next old mid) = λ before. holds_later s told laws h xids who x old shape holds before mid one in
       let single = one.one refl in
-      let blocks : s.blocks new ≡ after_groups (s.lsn old + 1) one.groups (s.blocks old) = flush.blocks told refl ∙ one.logs.blocks told refl in
-      let made : CommitMade h xids who x (s.blocks old) (s.blocks new) = subst (λ b. CommitMade h xids who x (s.blocks old) b) (sym blocks) (one.made (omega (arith, single))) in
-      (all.0, made.ids, number, λ before. (holds_committed s told laws h xids who x old shape holds before mid new one flush none).1, made.group)
-  commits_done mid new one (Err fault) flush none =
-      let both : Flushes s old new one.groups false = subst (λ (l : List (List Patch)). Flushes s old new l false) (append-nil one.groups) (more_flushes s old mid new one.groups [] false one.logs flush) in
-      commits_failed new one.groups one.few both one.made
+      let number : s.lsn mid ≡ s.lsn old + 1 = let a = one.logs.number refl in omega (arith, a, single) in
+      let made : CommitMade h xids who x (s.blocks old) (s.blocks mid) = subst (λ b. CommitMade h xids who x (s.blocks old) b) (sym (one.logs.blocks told refl)) (one.made (omega (arith, single))) in
+      ((held None).0, made.ids, number, λ before. (held before).1, made.group)
+
+  -- and all that waits is made last
+  module _ (mid : S) (one : GivesOne s old mid true (λ now. CommitMade h xids who x (s.blocks old) now)) (going : h.stopped ≡ false) where
+    pub commits_done : {T E : Type 0} (new : S) (r : Result T E) → Flushes s mid new [] (not (is_err r)) → (s.keeps → OnOk r (s.pending new ≡ [])) → Commits s AtOnce h xids who x old new (not (is_err r))
+    commits_done new (Ok value) flush none =
+        let next : State = committed h who x.seg x.slot in
+        let given = commits_later mid one in
+        let flushed : (before : Option Call) → Holds s (all_safe next) (xids ++ x ∷ []) new × (s.keeps → Survives s (s.slots mid) before next (all_safe next) mid new) = λ before. holds_flushed s laws next (xids ++ x ∷ []) mid new (one.logs.same_shape ∙ shape) given.0 told before flush none in
+        let number : s.lsn new ≡ s.lsn old + 1 = let a = given.2 in let b = flush.number refl in omega (arith, a, b) in
+        let same : s.blocks new ≡ s.blocks mid = flush.blocks told refl in (
+          (flushed None).0,
+          subst (λ (b : List (List ℕ)). KeepsIds h (env_of h.shape (s.blocks old)) (env_of h.shape b)) (sym same) given.1,
+          number,
+          λ before keeps. survives_on s (s.slots old) h next (all_safe next) old mid new going (given.3 before keeps)
+              (subst (λ (k : Option ℕ). Survives s k before next (all_safe next) mid new) one.logs.same_slots ((flushed before).1 keeps)),
+          subst (λ (b : List (List ℕ)). IsCommitted h.shape (SLOTS * x.seg + x.slot) (last_scn h.commits + 1) (s.blocks old) b) (sym same) given.4,
+        )
+    commits_done new (Err fault) flush none =
+        let both : Flushes s old new one.groups false = subst (λ (l : List (List Patch)). Flushes s old new l false) (append-nil one.groups) (more_flushes s old mid new one.groups [] false one.logs flush) in
+        commits_failed AtOnce new one.groups one.few both one.made
+
+-- neither call is a write
+pub no_write : (l : Lasting) (who s t k : ℕ) (a : Action) → commit_call l who ≡ Write s t k a → {X : Type 0} → X
+no_write AtOnce who s t k a is = cc
+no_write Later who s t k a is = cc
 
 -- a session of that number is there
 pub is_there : (h : State) (who : ℕ) → (1 ≤ who) × (who ≤ SESSIONS) → length h.sessions ≡ SESSIONS → is_session h who ≡ true
@@ -109,16 +185,17 @@ module _ {S : Type 0} (s : Ghosts S) (told : s.tells) (laws : Laws s) (h : State
       omega (arith, few, is, same, number, logged, goes.holds.logged)
 
   module _ (some : 0 < length (session_own h who)) (new : EngineView S) (same : SameStore s old.store new.store) where
-    pub does_committed : is_queued who old.memory.waits ≡ false → (n : ℕ) → n ≡ last_scn h.commits + 1 → Commits s h goes.xids who x old.store new.store true
-        → new.memory.sessions ≡ with_kept old.memory.sessions who (table.committed (kept_at old.memory.sessions who)) → new.memory.waits ≡ freed_by who old.memory.waits → new.memory.scn ≡ n → new.memory.stopped ≡ old.memory.stopped → new.memory.copies ≡ old.memory.copies → Does s h (Commit who) (Numbered n) old new
-    does_committed free n next done table_is waits scn stopped copies =
+    pub does_committed : (l : Lasting) → is_queued who old.memory.waits ≡ false → (n : ℕ) → n ≡ last_scn h.commits + 1 → Commits s l h goes.xids who x old.store new.store true
+        → new.memory.sessions ≡ with_kept old.memory.sessions who (table.committed (kept_at old.memory.sessions who)) → new.memory.waits ≡ freed_by who old.memory.waits → new.memory.scn ≡ n → new.memory.stopped ≡ old.memory.stopped → new.memory.copies ≡ old.memory.copies → Does s h (commit_call l who) (number_told l n) old new
+    does_committed l free n next done table_is waits scn stopped copies =
         let bare : State = committed h who x.seg x.slot in
-        let now : State = freeing bare who in
+        let now : State = lasting l (freeing bare who) in
         let full = some_own (session_own h who) some in
         let more : last_scn now.commits ≡ last_scn h.commits + 1 = let l = length-append h.commits.list (session_own h who ∷ []) in omega (arith, l) in
-        does_by s h now (Commit who) (Numbered n) old new 1 st
-        (MayAnswer.later [] (no_early h old.memory who st.knows going there free) refl (rw (full, next) refl))
-        (inl (full, (x.seg, x.slot, own_by.owned, refl))) (λ _ s t k a is done. cc)
+        let stand : BlocksStand bare (goes.xids ++ x ∷ []) (s.blocks new.store) = blocks_stand (lasting l bare) bare.queue bare.asked bare.safe (goes.xids ++ x ∷ []) (s.blocks new.store) done.0.blocks in
+        does_by s h now (commit_call l who) (number_told l n) old new 1 st
+        (may_commit l h (s.lsn old.store) who n full next (no_early h old.memory who st.knows going there free))
+        (after_commit l h who n x.seg x.slot full own_by.owned) (λ _ s t k a is done. no_write l who s t k a is)
         (record {
           sixteen = length-set h.sessions _ _ ∙ st.knows.sixteen;
           stopped = stopped ∙ st.knows.stopped;
@@ -126,20 +203,21 @@ module _ {S : Type 0} (s : Ghosts S) (told : s.tells) (laws : Laws s) (h : State
           queue = λ on. knows_freed h now old.memory new.memory who refl refl waits (ap (λ (l : List KeptSession). map (λ k. k.asked) l) table_is ∙ all_asked old.memory.sessions (who - 1) (table.committed (kept_at old.memory.sessions who)) refl) (st.knows.queue on);
         }) same
         (λ _. (
-          inl (full, refl),
+          grows_commit l h who n full,
           done.2,
           record {
             xids = goes.xids ++ x ∷ [];
-            holds = holds_queue bare now.queue now.asked s (goes.xids ++ x ∷ []) new.store done.0;
+            holds = holds_queue (lasting l bare) now.queue now.asked s (goes.xids ++ x ∷ []) new.store done.0;
             remembers = subst (Remembers now (goes.xids ++ x ∷ []) (env_of h.shape (s.blocks new.store))) (sym table_is)
-                (committed_remembered h goes.xids (s.blocks old.store) (s.blocks new.store) old.memory.sessions who x goes.holds.blocks goes.remembers there.0 there.1 own done.1);
+                (queue_remembered (freeing bare who) now.queue now.asked now.safe (goes.xids ++ x ∷ []) (env_of h.shape (s.blocks new.store)) (with_kept old.memory.sessions who (table.committed (kept_at old.memory.sessions who)))
+                (committed_remembered h goes.xids (s.blocks old.store) (s.blocks new.store) old.memory.sessions who x goes.holds.blocks goes.remembers there.0 there.1 own done.1));
             copies =
                 let last : logged_of h.shape (s.blocks new.store) ≡ logged_of h.shape (s.blocks old.store) + 1 = omega (arith, done.0.logged, goes.holds.logged, done.2) in
                 copies_committed h now goes.xids (s.blocks old.store) (s.blocks new.store) who x old.memory.copies new.memory.copies refl refl goes.holds.blocks own_by.owned
-                (record { stand = done.0.blocks; ids = done.1; last = last; group = done.4 }) copies goes.copies;
+                (record { stand = stand; ids = done.1; last = last; group = done.4 }) copies goes.copies;
           },
         ))
-        (λ before _ keeps. survives_queue bare now.queue now.asked s (s.slots old.store) before h old.store new.store (done.3 before keeps))
+        (λ before _ keeps. subst (λ (k : Option Call). Survives s (s.slots old.store) k h now old.store new.store) (sym (no_failure l who n before)) (survives_queue (lasting l bare) now.queue now.asked s (s.slots old.store) before h old.store new.store (done.3 before keeps)))
 
   pub does_not : (new : EngineView S) → SameStore s old.store new.store → (call : Call) → none_applies (early_tests h call) ≡ true → Fails s (Some call) h old.store new.store → new.memory ≡ record old.memory { stopped = true } → Does s h call (Refused DiskFault) old new
   does_not new same call early fails stops = does_fault s told laws h call old new st going early stops same fails
@@ -177,4 +255,4 @@ does_ended s laws h call who cursors old new st going there runs retains own emp
         copies = copies_same h now goes.xids (s.blocks old.store) (s.blocks new.store) old.memory.copies new.memory.copies refl refl (ap s.blocks store) copies goes.copies;
       },
     ))
-    (λ before _ keeps. subst (λ (y : _). Survives s (s.slots old.store) before h now old.store y) (sym store) (survives_same s st.told laws h now goes.xids old.store old.store true st.shape refl refl refl goes.holds logs keeps))
+    (λ before _ keeps. subst (λ (y : _). Survives s (s.slots old.store) before h now old.store y) (sym store) (survives_same s st.told laws h now goes.xids old.store old.store true st.shape refl refl refl refl goes.holds logs keeps))

@@ -25,8 +25,9 @@ use Rattle.rb_waits.specs.Room.{AreQueuedOnce}
 use Rattle.rb_engine.specs.Opened.{Opened, OpensTo, StaysOpen}
 use Rattle.law_crash.specs.Crash.{Restarts}
 use Rattle.law_crash.specs.Holds.{Holds}
-use Rattle.law_crash.specs.Images.{HasState}
-use Rattle.law_crash.proofs.Steps.{OpensWith, Property, keeps_on, leaves_on, restarts}
+use Rattle.law_crash.specs.Images.{HasSome, HasState}
+use Rattle.law_crash.proofs.Crashes.{some_last}
+use Rattle.law_crash.proofs.Steps.{OpensWith, Property, keeps_on, leaves_on, restarts_some}
 use Rattle.rb_model.specs.Book.{Book, book_at, fresh_book}
 use Rattle.rb_model.specs.Calls.{HasNoSlot}
 use Rattle.rb_model.specs.Change.{Change}
@@ -126,8 +127,10 @@ module _ (shape : Shape) (blocks : List (List ℕ)) (number : ℕ) (rows : List 
           ∙ sym (get_or-map-range_with_len (λ (k : ℕ). found_book (segment_of shape blocks k).header) 0 shape.segments g g fresh_book there (omega arith))
 
   each_partly : (lsn : ℕ) (groups : List (List Patch)) → lsn ≡ logged_of shape blocks → StaySound shape number rows lsn groups blocks
-      → AfterEach (HasState First First.books (last_scn First.commits)) lsn groups blocks
-  each_partly lsn groups logged stay count few = has_partly lsn count (after_groups (lsn + 1) (take count groups) blocks) logged (stay count few)
+      → AfterEach (HasSome First First.books) lsn groups blocks
+  each_partly lsn groups logged stay count few =
+      let now = after_groups (lsn + 1) (take count groups) blocks in
+      some_last First First.books now (lsn + count) (omega arith) (has_partly lsn count now logged (stay count few))
 
 module _ {S : Type 0} (s : Ghosts S) (laws : Laws s) (told : s.tells) (h : State) (old : S) (opens : OpensTo s h old) where
   abbrev Sh : Shape
@@ -140,14 +143,14 @@ module _ {S : Type 0} (s : Ghosts S) (laws : Laws s) (told : s.tells) (h : State
   Rows = opens.opening.rows
 
   abbrev Has : Property
-  Has = HasState h h.books (last_scn h.commits)
+  Has = HasSome h h.books
 
   shape_is : Sh ≡ h.shape
   shape_is = sym (ap (λ (x : State). x.shape) opens.opening.state)
 
   each : (groups : List (List Patch)) → StaySound Sh Number Rows (s.lsn old) groups (s.blocks old) → AfterEach Has (s.lsn old) groups (s.blocks old)
   each groups stay =
-      subst (λ (x : State). AfterEach (HasState x x.books (last_scn x.commits)) (s.lsn old) groups (s.blocks old)) (sym opens.opening.state)
+      subst (λ (x : State). AfterEach (HasSome x x.books) (s.lsn old) groups (s.blocks old)) (sym opens.opening.state)
       (each_partly Sh (s.blocks old) Number Rows (s.lsn old) groups opens.logged stay)
 
   none_stays : StaySound Sh Number Rows (s.lsn old) [] (s.blocks old)
@@ -165,7 +168,7 @@ module _ {S : Type 0} (s : Ghosts S) (laws : Laws s) (told : s.tells) (h : State
   pub stays : (new : S) (groups : List (List Patch)) (going : Bool) → Logs s old new groups going → StaySound Sh Number Rows (s.lsn old) groups (s.blocks old) → StaysOpen s h old new
   stays new groups going logs stay keeps =
       weaker s.moment s.left_since old new (OpensWith s Has old) (Restarts s.opens (s.slots old) h)
-      (λ i opening. restarts s laws keeps h h.books (last_scn h.commits) old i shape_is opening)
+      (λ i opening. restarts_some s laws keeps h h.books old i shape_is opening)
       (leaves_on s laws keeps Has Has (λ b n has. has) old new groups going (kept keeps) logs (each groups stay))
 
   pub unchanged_stays : (new : S) (going : Bool) → Logs s old new [] going → StaysOpen s h old new
@@ -187,19 +190,19 @@ module _ {S : Type 0} (s : Ghosts S) (laws : Laws s) (told : s.tells) (h : State
         let clash : None ≡ Some o = sym none ∙ (same ∙ at) in
         cc
 
-    holds_first : (s.keeps → Keeps s (HasState (First Sh (s.blocks old) Number Rows) (First Sh (s.blocks old) Number Rows).books (last_scn (First Sh (s.blocks old) Number Rows).commits)) new) → Holds s (First Sh (s.blocks old) Number Rows) [] new
+    holds_first : (s.keeps → Keeps s (HasSome (First Sh (s.blocks old) Number Rows) (First Sh (s.blocks old) Number Rows).books) new) → Holds s (First Sh (s.blocks old) Number Rows) [] new
     holds_first images = record {
       blocks = stand.0;
       logged = stand.1;
       images = images;
     }
 
-    images_new : s.keeps → Keeps s (HasState h h.books (last_scn h.commits)) new
+    images_new : s.keeps → Keeps s (HasSome h h.books) new
     images_new keeps = keeps_on s laws keeps Has Has (λ b n has. has) old new groups (kept keeps) logs (each groups stay)
 
     holds : Holds s h [] new
     holds =
-        subst (λ (x : State). (s.keeps → Keeps s (HasState x x.books (last_scn x.commits)) new) → Holds s x [] new) (sym opens.opening.state) holds_first images_new
+        subst (λ (x : State). (s.keeps → Keeps s (HasSome x x.books) new) → Holds s x [] new) (sym opens.opening.state) holds_first images_new
 
     -- an engine with such a memory
     pub opened_engine : (memory : Kept) → memory.sessions ≡ replicate SESSIONS fresh → memory.waits ≡ [] → memory.scn ≡ commit_scn Sh (s.blocks old) → memory.stopped ≡ false → memory.copies.kept ≡ [] → Opened s h old (record { memory = memory; store = new })

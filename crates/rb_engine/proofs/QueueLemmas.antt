@@ -1,33 +1,28 @@
 -- The queue in memory and in a state, and that neither a store nor a crash knows anything of it.
 use Rattle.std.proofs.Common.{◌≡◌, ◌≢◌, inl, inr, ◌≤◌, ◌-◌, ◌*◌, ◌==◌, ◌||◌, ℕ, zero, suc, Bool, true, false, List, [], ◌∷◌, length, map, set, get_or, Option, Some, None, refl, sym, ◌∙◌, ap, subst, arith}
-use Rattle.rb_base.specs.declared.sizes.TheConstants.{SLOTS}
 use Rattle.rb_sessions.specs.declared.sessions.TheConstants.{SESSIONS}
 use Rattle.rb_engine.proofs.CopyLemmas.{copies_same}
 use Rattle.std.proofs.lemmas.Bool.{cases_eq, ne_eqb}
 use Rattle.std.proofs.lemmas.List.{get_or-set_other, get_or-set_same}
-use Rattle.std.specs.List.{range_with_len}
 use Rattle.rb_base.specs.Moments.{weaker}
 use Rattle.rb_base.specs.declared.ids.Xid.{Xid}
 use Rattle.rb_base.specs.declared.store.Store.{Ghosts}
 use Rattle.rb_engine.specs.Does.{EngineView, Goes, IsQueue, Kept, KnowsQueue}
-use Rattle.law_crash.specs.Between.{at_end, one_commit, one_write, reached, whole}
+use Rattle.law_crash.proofs.Beside.{blocks_stand, has_beside}
+use Rattle.law_crash.specs.Between.{FoundSome, at_end, one_commit, one_write, reached, up_to}
 use Rattle.law_crash.specs.Crash.{AtEnd, OnTheWay, RestartsAt, Survives}
 use Rattle.law_crash.specs.Holds.{Holds}
-use Rattle.law_crash.specs.Images.{HasState}
-use Rattle.rb_model.specs.Book.{Book, Owner}
+use Rattle.law_crash.specs.Images.{HasSome}
+use Rattle.rb_model.specs.Book.{Book}
 use Rattle.rb_model.specs.Calls.{Call}
 use Rattle.rb_model.specs.Change.{Asked}
 use Rattle.rb_model.specs.Queue.{Waiter, freed_by, is_queued, left_by, waiting}
-use Rattle.rb_model.specs.Rows.{last_scn}
-use Rattle.rb_model.specs.State.{State, asked_of, owner_at}
+use Rattle.rb_model.specs.State.{State, asked_of}
 use Rattle.rb_sessions.specs.Kept.{KeptSession, fresh, holding, kept_at, with_kept}
-use Rattle.law_blocks.specs.Standing.{Standing, env_of}
-use Rattle.law_blocks.specs.States.{BlocksStand, lives_of, owned, past_of}
+use Rattle.law_blocks.specs.Standing.{env_of}
 use Rattle.law_sessions.proofs.Queues.{queue_remembered}
 use Rattle.rb_waits.proofs.Turns.{free_keeps, freed_stay, leave_keeps, left_is_out, others_stay, wait_adds, wait_keeps}
 use Rattle.rb_waits.specs.Room.{AreQueuedOnce}
-use Rattle.law_home.specs.Walk as walk
-use Rattle.law_home.specs.Walk.{Env}
 
 -- The writes that sessions wait with, over a step of one session of the table.
 
@@ -120,63 +115,37 @@ module _ (h : State) (queue : List Waiter) (asked : List (Option Asked)) where
   abbrev pub Next : State
   Next = record h { queue = queue; asked = asked }
 
-  owned_same : (x : Xid) (o : Option Owner) → owned Next x o ≡ owned h x o
-  owned_same x None = refl
-  owned_same x (Some o) = refl
-
-  lives_same : (env : Env) → lives_of Next env ≡ lives_of h env
-  lives_same env =
-      let each : (λ (t : ℕ). owned Next (env.xid t) (owner_at h t)) ≡ (λ (t : ℕ). owned h (env.xid t) (owner_at h t)) = λ i t. owned_same (env.xid t) (owner_at h t) i in
-      ap (λ (f : ℕ → List walk.Change). map f (range_with_len 0 (SLOTS * h.shape.segments))) each
-
-  pub blocks_stand : (xids : List Xid) (blocks : List (List ℕ)) → BlocksStand h xids blocks → BlocksStand Next xids blocks
-  blocks_stand xids blocks stand = record {
-    tell = record {
-      in_range = stand.tell.in_range;
-      counted = stand.tell.counted;
-      books_counted = stand.tell.books_counted;
-      books = stand.tell.books;
-      owner_there = λ r t owns. stand.tell.owner_there r t (record { owner = owns.owner; at = owns.at; session = owns.session });
-      one_slot = λ r t v one two. stand.tell.one_slot r t v (record { owner = one.owner; at = one.at; session = one.session }) (record { owner = two.owner; at = two.at; session = two.session });
-      has_slot = λ r c more r_in is. let f = stand.tell.has_slot r c more r_in is in (f.0, f.1, record { owner = f.2.owner; at = f.2.at; session = f.2.session });
-      tables = stand.tell.tables;
-      commit_tables = stand.tell.commit_tables;
-      ids_differ = stand.tell.ids_differ;
-      ids_made = stand.tell.ids_made;
-      ids_over = stand.tell.ids_over;
-      running = stand.tell.running;
-    };
-    standing = subst (λ (l : List (List walk.Change)). Standing h.shape blocks (past_of h xids) l) (sym (lives_same (env_of h.shape blocks))) stand.standing;
-  }
-
-  has_state : (books : List Book) (n : ℕ) (blocks : List (List ℕ)) (lsn : ℕ) → HasState h books n blocks lsn → HasState Next books n blocks lsn
-  has_state books n blocks lsn has = record { logged = has.logged; sound = has.sound; marks = has.marks }
+  some_state : (books : List Book) (blocks : List (List ℕ)) (lsn : ℕ) → HasSome h books blocks lsn → HasSome Next books blocks lsn
+  some_state books blocks lsn is = record { number = is.number; acknowledged = is.acknowledged; made = is.made; found = has_beside h queue asked h.safe books is.number blocks lsn is.found }
 
   module _ {S : Type 0} (s : Ghosts S) where
     pub holds_queue : (xids : List Xid) (store : S) → Holds s h xids store → Holds s Next xids store
     holds_queue xids store holds = record {
-      blocks = blocks_stand xids (s.blocks store) holds.blocks;
+      blocks = blocks_stand h queue asked h.safe xids (s.blocks store) holds.blocks;
       logged = holds.logged;
-      images = λ keeps. let k = holds.images keeps in record { base = k.base; first = k.first; stable = k.stable; each = λ count few. has_state h.books (last_scn h.commits) _ _ (k.each count few) };
+      images = λ keeps. let k = holds.images keeps in record { base = k.base; first = k.first; stable = k.stable; each = λ count few. some_state h.books _ _ (k.each count few) };
     }
 
     pub goes_queue : (e : EngineView S) (memory : Kept) → memory.sessions ≡ e.memory.sessions → memory.copies ≡ e.memory.copies → Goes s h e → Goes s Next (record { memory = memory; store = e.store })
     goes_queue e memory same copies goes = record {
       xids = goes.xids;
       holds = holds_queue goes.xids e.store goes.holds;
-      remembers = subst (Rattle.law_sessions.specs.Views.Remembers Next goes.xids (env_of h.shape (s.blocks e.store))) (sym same) (queue_remembered h queue asked goes.xids (env_of h.shape (s.blocks e.store)) e.memory.sessions goes.remembers);
+      remembers = subst (Rattle.law_sessions.specs.Views.Remembers Next goes.xids (env_of h.shape (s.blocks e.store))) (sym same) (queue_remembered h queue asked h.safe goes.xids (env_of h.shape (s.blocks e.store)) e.memory.sessions goes.remembers);
       copies = copies_same h Next goes.xids (s.blocks e.store) (s.blocks e.store) e.memory.copies memory.copies refl refl refl copies goes.copies;
     }
 
     -- The images that a crash leaves.
     module _ (slots : Option ℕ) (fault : Option Call) where
       restarts_at : (books : List Book) (n : ℕ) (i : s.image) → RestartsAt s.opens slots books h n i → RestartsAt s.opens slots books Next n i
-      restarts_at books n i is = record { blocks = is.blocks; lsn = is.lsn; opening = is.opening; has = has_state books n is.blocks is.lsn is.has }
+      restarts_at books n i is = record { blocks = is.blocks; lsn = is.lsn; opening = is.opening; has = has_beside h queue asked h.safe books n is.blocks is.lsn is.has }
+
+      some_at : (books : List Book) (i : s.image) → FoundSome (RestartsAt s.opens slots) books h i → FoundSome (RestartsAt s.opens slots) books Next i
+      some_at books i is = record { number = is.number; acknowledged = is.acknowledged; made = is.made; found = restarts_at books is.number i is.found }
 
       ends : (i : s.image) → AtEnd s.opens slots fault h i → AtEnd s.opens slots fault Next i
-      ends i (whole is) = whole (restarts_at h.books (last_scn h.commits) i is)
-      ends i (one_commit who call stopped some is) = one_commit who call stopped some (record { blocks = is.blocks; lsn = is.lsn; opening = is.opening; has = record { logged = is.has.logged; sound = is.has.sound; marks = is.has.marks } })
-      ends i (one_write who table key action g k call stopped within is) = one_write who table key action g k call stopped within (restarts_at _ (last_scn h.commits) i is)
+      ends i (up_to is) = up_to (some_at h.books i is)
+      ends i (one_commit who call stopped own is) = one_commit who call stopped own (record { blocks = is.blocks; lsn = is.lsn; opening = is.opening; has = record { logged = is.has.logged; sound = is.has.sound; marks = is.has.marks } })
+      ends i (one_write who table key action g k call stopped within is) = one_write who table key action g k call stopped within (some_at _ i is)
 
       on_the_way : (before : State) (i : s.image) → OnTheWay s.opens slots fault before h i → OnTheWay s.opens slots fault before Next i
       on_the_way before i (reached n low high is) = reached n low high (restarts_at h.books n i is)
@@ -184,7 +153,7 @@ module _ (h : State) (queue : List Waiter) (asked : List (Option Asked)) where
 
       pub survives_queue : (before : State) (old new : S) → Survives s slots fault before h old new → Survives s slots fault before Next old new
       survives_queue before old new is = record {
-        extends = record { shape = is.extends.shape; base = is.extends.base; rows = is.extends.rows; more = is.extends.more; list = is.extends.list; marks = is.extends.marks };
+        extends = record { shape = is.extends.shape; base = is.extends.base; rows = is.extends.rows; more = is.extends.more; list = is.extends.list; marks = is.extends.marks; safe = is.extends.safe };
         any_moment = weaker s.moment s.left_since old new (OnTheWay s.opens slots fault before h) (OnTheWay s.opens slots fault before Next) (on_the_way before) is.any_moment;
         now_only = λ i left. ends i (is.now_only i left);
       }
@@ -196,7 +165,7 @@ module _ (h : State) (queue : List Waiter) (asked : List (Option Asked)) where
 
       pub survives_from : (now : State) (old new : S) → Survives s slots fault Next now old new → Survives s slots fault h now old new
       survives_from now old new is = record {
-        extends = record { shape = is.extends.shape; base = is.extends.base; rows = is.extends.rows; more = is.extends.more; list = is.extends.list; marks = is.extends.marks };
+        extends = record { shape = is.extends.shape; base = is.extends.base; rows = is.extends.rows; more = is.extends.more; list = is.extends.list; marks = is.extends.marks; safe = is.extends.safe };
         any_moment = weaker s.moment s.left_since old new (OnTheWay s.opens slots fault Next now) (OnTheWay s.opens slots fault h now) (from_queue now) is.any_moment;
         now_only = is.now_only;
       }

@@ -21,19 +21,21 @@ use Rattle.rb_base.specs.declared.store.Store.{Ghosts}
 use Rattle.rb_engine.specs.Does.{Does, EngineView, Goes, SameStore, Stands}
 use Rattle.rb_engine.specs.Finishing.{Fails, PutsAllBack, PutsBack, SameIds}
 use Rattle.rb_engine.proofs.DoesLemmas.{does_by, holds_session, knows_on, survives_same, with_session}
-use Rattle.rb_engine.proofs.FinishLemmas.{goes, no_early, none_own, own_by, own_id, runs_in}
+use Rattle.rb_engine.specs.Finishing.{commit_call}
+use Rattle.rb_engine.specs.declared.finish.Lasting.{Lasting}
+use Rattle.rb_engine.proofs.FinishLemmas.{after_end, grows_end, may_end, no_write, goes, no_early, none_own, own_by, own_id, runs_in}
 use Rattle.law_crash.specs.Between.{MarksGrow}
 use Rattle.law_crash.specs.Crash.{Survives}
 use Rattle.law_crash.specs.Holds.{Holds}
-use Rattle.law_crash.specs.Images.{HasState}
+use Rattle.law_crash.specs.Images.{HasSome}
 use Rattle.law_crash.specs.Made.{BackMade, BackOver, EndMade, GivesOne, KeepsIds}
-use Rattle.law_crash.proofs.Crashes.{grow_same, has_later, has_state, survives_on}
+use Rattle.law_crash.proofs.Crashes.{extends_same, grow_same, has_later, has_state, some_last, some_later, survives_on}
 use Rattle.law_crash.proofs.Marks.{shrinks_left}
 use Rattle.law_crash.proofs.Owners.{OwnedBy, owned_by, same_owners}
 use Rattle.law_crash.proofs.Steps.{read_has, survives_going}
 use Rattle.law_crash.proofs.StepsHeld.{few_each, holds_back, holds_ended}
 use Rattle.rb_model.specs.Book.{Book}
-use Rattle.rb_model.specs.Calls.{Call, Commit, Done, Owned, MayAnswer, Rollback, RollbackTo, is_empty, name_tests}
+use Rattle.rb_model.specs.Calls.{Call, Done, Owned, MayAnswer, Rollback, RollbackTo, is_empty, name_tests}
 use Rattle.rb_model.specs.Change.{Change}
 use Rattle.rb_engine.proofs.QueueLemmas.{all_asked, holds_queue, knows_freed, knows_same, survives_queue}
 use Rattle.rb_model.specs.Queue.{freed_by, is_queued}
@@ -131,18 +133,20 @@ module _ {S : Type 0} (s : Ghosts S) where
         → ((now : List (List ℕ)) → Is now → BlocksStand (record m { sessions = left; books = books }) xids now × (logged_of m.shape now ≡ logged_of m.shape (s.blocks old) + 1))
         → GivesOne s old new false Is → s.keeps → Survives s (s.slots old) fault m (record m { sessions = all; stopped = true }) old new
     step_fails m xids old new all left books Is shape holds marks is one keeps =
-        let P : List (List ℕ) → ℕ → Type 0 = HasState m m.books (last_scn m.commits) in
+        let P : List (List ℕ) → ℕ → Type 0 = HasSome m m.books in
         let h2 : State = record m { sessions = all; stopped = true } in
         let h3 : State = record m { sessions = left; books = books } in
-        let Q : List (List ℕ) → ℕ → Type 0 = HasState h2 h2.books (last_scn h2.commits) in
-        let so : (b : List (List ℕ)) (n : ℕ) → P b n → Q b n = λ b n has. has_later m h2 m.books m.books (last_scn m.commits) b n refl refl (grow_same m.shape m.books) has in
+        let Q : List (List ℕ) → ℕ → Type 0 = HasSome h2 h2.books in
+        let stays = extends_same m h2 refl refl (grow_same m.shape m.books) (omega arith) in
+        let was = read_has s laws keeps P old (holds.images keeps) in
         let now = after_groups (s.lsn old + 1) one.groups (s.blocks old) in
         let after : 1 ≤ length one.groups → Q now (s.lsn old + 1) = λ some.
         let k = is now (one.made some) in
-        has_later h3 h2 books m.books (last_scn m.commits) now (s.lsn old + 1) refl refl marks
-        (has_state h3 xids now (s.lsn old + 1) k.0 (ap (λ (n : ℕ). n + 1) holds.logged ∙ sym k.1)) in
-        survives_going s laws keeps m h2 old new one.groups shape refl refl (grow_same m.shape m.books) (holds.images keeps) false one.logs
-        (few_each s told laws Q one.groups (s.blocks old) (s.lsn old) keeps one.few (so _ _ (read_has s laws keeps P old (holds.images keeps))) after)
+        some_last h2 h2.books now (s.lsn old + 1) (omega (arith, was.acknowledged, was.made))
+        (has_later h3 h2 books m.books (last_scn m.commits) now (s.lsn old + 1) refl refl marks
+        (has_state h3 xids now (s.lsn old + 1) k.0 (ap (λ (n : ℕ). n + 1) holds.logged ∙ sym k.1))) in
+        survives_going s laws keeps m h2 old new one.groups shape stays (omega arith) (holds.images keeps) false one.logs
+        (few_each s told laws Q one.groups (s.blocks old) (s.lsn old) keeps one.few (some_later m h2 m.books h2.books (s.blocks old) (s.lsn old) stays (omega arith) (grow_same m.shape m.books) was) after)
 
     -- the slot that the transaction has, with some changes left
     id_left : (h : State) (xids : List Xid) (who : ℕ) (x : Xid) (left : List Change) (turn : ℕ) (old now : S) → (is : IsLeft h xids who x left turn old now) → OwnedBy (with_own h who left) (s.blocks now) who x
@@ -224,7 +228,7 @@ module _ {S : Type 0} (s : Ghosts S) where
           id = subst (λ (z : State). IsOwnId z (env_of h.shape (s.blocks old)) who (Some x)) all st.id;
           lsn = omega arith;
           survives = λ before keeps. subst (λ (z : State). Survives s (s.slots old) before h z old old) all
-              (survives_same s told laws h h xids old old true st.shape refl refl refl st.holds (no_logs s old runs) keeps);
+              (survives_same s told laws h h xids old old true st.shape refl refl refl refl st.holds (no_logs s old runs) keeps);
           back = refl;
           ages = aging.same (segments_of h.shape (s.blocks old));
         };
@@ -378,19 +382,19 @@ module _ {S : Type 0} (s : Ghosts S) (told : s.tells) (laws : Laws s) (h : State
         (λ before _ keeps. survives_queue bare now.queue now.asked s (s.slots old.store) before h old.store new.store (all.3 before keeps))
 
     -- The end of a transaction of which no change is left, by a commit.
-    pub does_left : is_queued who old.memory.waits ≡ false → session_own h who ≡ [] → PutsAllBack s h held.xids who x old.store new.store true
-        → new.memory.sessions ≡ with_kept old.memory.sessions who (kept_committed (kept_at old.memory.sessions who)) → new.memory.waits ≡ freed_by who old.memory.waits → new.memory.scn ≡ old.memory.scn → new.memory.stopped ≡ old.memory.stopped → new.memory.copies ≡ old.memory.copies → Does s h (Commit who) Done old new
-    does_left free none done table_is waits scn stopped copies =
+    pub does_left : (l : Lasting) → is_queued who old.memory.waits ≡ false → session_own h who ≡ [] → PutsAllBack s h held.xids who x old.store new.store true
+        → new.memory.sessions ≡ with_kept old.memory.sessions who (kept_committed (kept_at old.memory.sessions who)) → new.memory.waits ≡ freed_by who old.memory.waits → new.memory.scn ≡ old.memory.scn → new.memory.stopped ≡ old.memory.stopped → new.memory.copies ≡ old.memory.copies → Does s h (commit_call l who) Done old new
+    does_left l free none done table_is waits scn stopped copies =
         let cursors = cursors_of h who in
         let bare = without_owner x.seg x.slot (ended h who cursors) in
         let now = freeing bare who in
         let after : EndsAs h who cursors now = inl (x.seg, x.slot, id.owned, refl) in
         let nothing : is_empty (session_own h who) ≡ true = none_own (session_own h who) (ap (λ (l : List Change). length l) none) in
         let all = done cursors in
-        does_by s h now (Commit who) Done old new 1 st (MayAnswer.later [] (no_early h old.memory who st.knows going there free) refl (rw nothing refl)) (inr (nothing, after)) (λ _ s t k a is done. cc)
+        does_by s h now (commit_call l who) Done old new 1 st (may_end l h (s.lsn old.store) who nothing (no_early h old.memory who st.knows going there free)) (after_end l h now who nothing after) (λ _ s t k a is done. no_write l who s t k a is)
         (knows_on h now old.memory new.memory st.knows (length-set h.sessions _ _) refl refl stopped scn (λ on. knows_freed h now old.memory new.memory who refl refl waits (ap (λ (l : List KeptSession). map (λ k. k.asked) l) table_is ∙ all_asked old.memory.sessions (who - 1) (kept_committed (kept_at old.memory.sessions who)) refl) (st.knows.queue on))) same
         (λ _. (
-          inr (nothing, inl (x.seg, x.slot, id.owned, refl)),
+          grows_end l h who 1 nothing (inl (x.seg, x.slot, id.owned, refl)),
           (let n = all.2 in let empty = ap (λ (l : List Change). length l) none in omega (arith, n, empty)),
           record {
             xids = held.xids;
@@ -429,7 +433,7 @@ module _ {S : Type 0} (s : Ghosts S) (told : s.tells) (laws : Laws s) (h : State
           },
         ))
         (λ before _ keeps. survives_on s (s.slots old.store) h m now old.store new.store new.store going (done.3 before keeps)
-        (subst (λ (k : Option ℕ). Survives s k before m now new.store new.store) same.slots (survives_same s told laws m now held.xids new.store new.store true shape_new refl refl refl done.0 (no_logs s new.store runs) keeps)))
+        (subst (λ (k : Option ℕ). Survives s k before m now new.store new.store) same.slots (survives_same s told laws m now held.xids new.store new.store true shape_new refl refl refl refl done.0 (no_logs s new.store runs) keeps)))
 
 -- what holds where a call went well
 pub ok_by : {T E : Type 0} {P : Type 0} (r : Result T E) → (not (is_err r) ≡ true → P) → OnOk r P

@@ -177,12 +177,12 @@ module _ {S : Type 0} (s : Ghosts S) (told : s.tells) (laws : Laws s) (h : State
               xids = goes.xids;
               holds = holds_queue h now.queue now.asked s goes.xids new.store (holds_logged s told laws h goes.xids old.store new.store goes.holds logs);
               remembers = subst (Remembers now goes.xids (env_of h.shape (s.blocks new.store))) (sym table_is)
-                  (queue_remembered h now.queue now.asked goes.xids (env_of h.shape (s.blocks new.store)) (with_kept old.memory.sessions who (holding asked (kept_at old.memory.sessions who)))
+                  (queue_remembered h now.queue now.asked h.safe goes.xids (env_of h.shape (s.blocks new.store)) (with_kept old.memory.sessions who (holding asked (kept_at old.memory.sessions who)))
                   (held_remembered h goes.xids (env_of h.shape (s.blocks new.store)) old.memory.sessions who asked there.0 there.1 (remembers_logged s told laws h goes.xids old.memory.sessions old.store new.store logs goes.remembers)));
               copies = copies_same h now goes.xids (s.blocks old.store) (s.blocks new.store) old.memory.copies new.memory.copies refl refl (logs.blocks told refl) (ap (λ (k : Kept). k.copies) memory ∙ ap (λ (k : Kept). k.copies) before) goes.copies;
             },
           ))
-          (λ fault _ keeps. survives_queue h now.queue now.asked s (s.slots old.store) fault h old.store new.store (survives_same s told laws h h goes.xids old.store new.store true st.shape refl refl refl goes.holds logs keeps))
+          (λ fault _ keeps. survives_queue h now.queue now.asked s (s.slots old.store) fault h old.store new.store (survives_same s told laws h h goes.xids old.store new.store true st.shape refl refl refl refl goes.holds logs keeps))
 
       -- or is not, as they would wait in a ring
       pub step_ring : closes mid.waits who u ≡ true → new.memory ≡ mid → Does s h (Write who table key action) (Refused (Deadlock u)) old new
@@ -267,7 +267,7 @@ module _ {S : Type 0} (s : Ghosts S) (told : s.tells) (laws : Laws s) (h : State
         few = does.few;
         lsn = λ going. does.lsn going ∙ ap (λ (n : ℕ). n + does.groups) number;
         survives = λ before going keeps. survives_on s (s.slots old.store) {first = None} {fault = failed_in call answer before} h h does.now old.store mid.store new.store going
-            (survives_same s told laws {fault = None} h h (st.goes going).xids old.store mid.store true st.shape refl refl refl (st.goes going).holds logs keeps)
+            (survives_same s told laws {fault = None} h h (st.goes going).xids old.store mid.store true st.shape refl refl refl refl (st.goes going).holds logs keeps)
             (subst (λ (k : Option ℕ). Survives s k (failed_in call answer before) h does.now mid.store new.store) logs.same_slots (does.survives before going keeps));
       }
 

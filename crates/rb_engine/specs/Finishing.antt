@@ -7,7 +7,9 @@ use Rattle.rb_base.specs.declared.store.Store.{Ghosts}
 use Rattle.law_crash.specs.Crash.{Survives}
 use Rattle.law_crash.specs.Holds.{Holds}
 use Rattle.law_crash.specs.Made.{BackOver, KeepsIds}
-use Rattle.rb_model.specs.Calls.{Call, Commit}
+use Rattle.rb_engine.specs.declared.finish.Lasting.{Lasting}
+use Rattle.rb_engine.specs.declared.finish.Lasting.TheVariants.{AtOnce, Later}
+use Rattle.rb_model.specs.Calls.{Answer, Call, Commit, CommitLater, Committed, Numbered}
 use Rattle.rb_model.specs.NextState.{committed, ended, without_owner}
 use Rattle.rb_model.specs.Rows.{last_scn}
 use Rattle.rb_model.specs.State.{Cursor, State, session_own}
@@ -25,14 +27,32 @@ Fails s fault h old new = s.keeps → Survives s (s.slots old) fault h (record h
 abbrev pub SameIds : {S : Type 0} → Ghosts S → State → S → S → Type 0
 SameIds s h old new = KeepsIds h (env_of h.shape (s.blocks old)) (env_of h.shape (s.blocks new))
 
+-- the call that makes a commit, by when it lasts, and its answer with that number
+abbrev pub commit_call : Lasting → ℕ → Call
+commit_call AtOnce s = Commit s
+commit_call Later s = CommitLater s
+
+abbrev pub number_told : Lasting → ℕ → Answer
+number_told AtOnce n = Committed n
+number_told Later n = Numbered n
+
+-- up to which number commits are acknowledged then, of the last one's and that of before
+abbrev pub safe_by : Lasting → (last safe : ℕ) → ℕ
+safe_by AtOnce last safe = last
+safe_by Later last safe = safe
+
+abbrev pub lasting : Lasting → State → State
+lasting l h = record h { safe = safe_by l (last_scn h.commits) h.safe }
+
 -- a commit of that session, whose transaction has that id
-abbrev pub Commits : {S : Type 0} → Ghosts S → State → List Xid → ℕ → Xid → S → S → Bool → Type 0
-Commits s h xids who x old new true = Holds s (committed h who x.seg x.slot) (xids ++ x ∷ []) new
+abbrev pub Commits : {S : Type 0} → Ghosts S → Lasting → State → List Xid → ℕ → Xid → S → S → Bool
+    → Type 0
+Commits s l h xids who x old new true = Holds s (lasting l (committed h who x.seg x.slot)) (xids ++ x ∷ []) new
     × SameIds s h old new × (s.lsn new ≡ s.lsn old + 1)
     × ((before : Option Call) → s.keeps
-    → Survives s (s.slots old) before h (committed h who x.seg x.slot) old new)
+    → Survives s (s.slots old) before h (lasting l (committed h who x.seg x.slot)) old new)
     × IsCommitted h.shape (16 * x.seg + x.slot) (last_scn h.commits + 1) (s.blocks old) (s.blocks new)
-Commits s h xids who x old new false = Fails s (Some (Commit who)) h old new
+Commits s l h xids who x old new false = Fails s (Some (commit_call l who)) h old new
 
 -- the put back of its changes but for so many, its first ones, by the transaction of that id; the segments are older
 -- then

@@ -8,8 +8,9 @@ use Rattle.rb_base.specs.declared.sizes.TheConstants.{WORN}
 use Rattle.rb_engine.specs.Cleaning.{IsClean, OnlyCleaned, ReadIn}
 use Rattle.law_crash.specs.Made.{BackOver}
 use Rattle.rb_model.specs.Answers.{write_answer}
-use Rattle.rb_model.specs.Calls.{Action, Answer, Call, Commit, Done, End, Fetch, Given, HasNoSlot, Marked, Numbered}
-use Rattle.rb_model.specs.Calls.{Owned, Refused, Rollback, RollbackTo, Waits, Write, WritesIn, adds, is_empty}
+use Rattle.rb_model.specs.Calls.{Action, Answer, Call, Commit, CommitLater, Committed, Done, End, Fetch, Flushed}
+use Rattle.rb_model.specs.Calls.{Given, HasNoSlot, Marked, Numbered, Owned, Refused, Rollback, RollbackTo, Waits}
+use Rattle.rb_model.specs.Calls.{Write, WritesIn, adds, is_empty}
 use Rattle.rb_model.specs.Change.{Asked}
 use Rattle.rb_model.specs.NextState.{kind_by, unqueued}
 use Rattle.rb_model.specs.Rows.{last_scn}
@@ -42,15 +43,20 @@ pub record WritesOne (h : State) (g i table key : ℕ) (action : Action) (before
   pub of_home : undo.home ≡ home_block h.shape table key
   pub group : IsWritten h.shape (16 * g + i) (adds action) (kind_by action) address undo before now
 
+-- a commit: its number in a header where the session has changes, and else the end of its transaction
+abbrev pub CommitMakes : State → ℕ → (before now : List (List ℕ)) → Type 0
+CommitMakes h s before now =
+    ((is_empty (session_own h s) ≡ false) × ((g : ℕ) × (i : ℕ) × Owned h s g i
+    × IsCommitted h.shape (16 * g + i) (last_scn h.commits + 1) before now))
+    ⊎ ((is_empty (session_own h s) ≡ true) × EndOver h s 0 before now)
+
 -- What a call makes that did what it was asked for, but for a fetch: a write its change, a commit its number in a
 -- header, a rollback its changes back. No other call changes a block.
 abbrev pub MadeBy : State → Call → (before now : List (List ℕ)) → Type 0
 MadeBy h (Write s table key action) before now =
     (g : ℕ) × (i : ℕ) × WritesIn h s g i × WritesOne h g i table key action before now
-MadeBy h (Commit s) before now =
-    ((is_empty (session_own h s) ≡ false) × ((g : ℕ) × (i : ℕ) × Owned h s g i
-    × IsCommitted h.shape (16 * g + i) (last_scn h.commits + 1) before now))
-    ⊎ ((is_empty (session_own h s) ≡ true) × EndOver h s 0 before now)
+MadeBy h (Commit s) before now = CommitMakes h s before now
+MadeBy h (CommitLater s) before now = CommitMakes h s before now
 MadeBy h (Rollback s) before now = EndOver h s (length (session_own h s)) before now
 MadeBy h (RollbackTo s name) before now = (p : Savepoint) × (savepoint_of h s name ≡ Some p)
     × (((g : ℕ) × (i : ℕ) × Owned h s g i
@@ -83,7 +89,9 @@ MadeRefused h call why lsn before now = now ≡ before
 -- that has come to that number.
 abbrev pub Makes : State → Call → Answer → ℕ → (before now : List (List ℕ)) → Type 0
 Makes h call Done lsn before now = MadeBy h call before now
+Makes h call (Committed n) lsn before now = MadeBy h call before now
 Makes h call (Numbered n) lsn before now = MadeBy h call before now
+Makes h call (Flushed n) lsn before now = MadeBy h call before now
 Makes h call (Waits on) lsn before now = now ≡ before
 Makes h call (Given key value) lsn before now = MadeReading h call (Unit {0}) lsn before now
 Makes h call End lsn before now = MadeReading h call (Unit {0}) lsn before now

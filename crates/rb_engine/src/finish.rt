@@ -1,5 +1,5 @@
 //! The end of a session's transaction: a commit, or a rollback. Who waits for the session is ready then.
-//! `Engine::commit` and `Engine::rollback` call it.
+//! `Engine::commit`, `Engine::commit_later` and `Engine::rollback` call it.
 ghost use Rattle.std.specs.Prelude.{◌≡◌, ◌≤◌, ◌<◌, ◌+◌, ◌-◌, ◌^◌, ℕ, List, length};
 ghost use Rattle.std.specs.Prelude.{false, not, Some, OnOk};
 ghost use Rattle.std.specs.Result.{is_err};
@@ -7,7 +7,7 @@ ghost use Rattle.rb_base.specs.Counts.{IsCounted, IsCountedAs, err_is};
 ghost use Rattle.rb_base.specs.Groups.{Patch};
 ghost use Rattle.rb_base.specs.Logs.{Logs};
 ghost use Rattle.rb_engine.specs.Does.{Does, IsInStep, SameStore, Stands};
-ghost use Rattle.rb_engine.specs.Finishing.{Commits, HasNoNumber, PutsAllBack, PutsBack};
+ghost use Rattle.rb_engine.specs.Finishing.{Commits, HasNoNumber, PutsAllBack, PutsBack, commit_call, number_told};
 ghost use Rattle.rb_engine.specs.Makes.{Makes};
 ghost use Rattle.law_crash.specs.Holds.{Holds};
 ghost use Rattle.law_crash.specs.Keeps.{KeepsRows};
@@ -29,8 +29,17 @@ use rb_model::Refusal;
 use rb_sessions::SESSIONS;
 use rb_steps::{back_step, commit_step, end_step};
 
-/// Gives the store the group of a commit, and makes all groups last.
-fn commit_and_flush<T: Store>(store: &mut T, xid: Xid, scn: Scn) -> Result<(), Failed>
+/// When a commit is made last, with all groups before it.
+#[derive(Clone, Copy)]
+pub enum Lasting {
+    /// In its own call, before its number is answered.
+    AtOnce,
+    /// By a later call.
+    Later,
+}
+
+/// Gives the store the group of a commit, and makes all groups last if that is to be at once.
+fn give_commit<T: Store>(store: &mut T, xid: Xid, scn: Scn, lasting: Lasting) -> Result<(), Failed>
     requires going { T.failed store.old ≡ false }
     requires there { xid.seg < (T.shape_of store.old).segments }
     requires slot { xid.slot < SLOTS }
@@ -38,8 +47,9 @@ fn commit_and_flush<T: Store>(store: &mut T, xid: Xid, scn: Scn) -> Result<(), F
     ensures commits { T.tells → (h : State) (xids : List Xid) (who : ℕ) → T.shape_of store.old ≡ h.shape
         → Holds T.Store h xids store.old → 1 ≤ who → who ≤ length h.sessions
         → IsOwnId h (env_of h.shape (T.blocks store.old)) who (Some xid)
-        → 0 < length (session_own h who) → scn ≡ last_scn h.commits + 1
-        → Commits T.Store h xids who xid store.old store.new (not (is_err result)) }
+        → 0 < length (session_own h who) → h.stopped ≡ false → scn ≡ last_scn h.commits + 1
+        → Commits T.Store lasting h xids who xid store.old store.new (not (is_err result)) }
+    ensures holds_back { lasting ≡ Lasting.Later → OnOk result (T.holds_back store.old store.new) }
     ensures lsn { OnOk result (T.lsn store.new ≤ T.lsn store.old + 1) }
     ensures same { SameStore T.Store store.old store.new }
     ensures failed { T.failed store.new ≡ is_err result }
@@ -47,7 +57,10 @@ fn commit_and_flush<T: Store>(store: &mut T, xid: Xid, scn: Scn) -> Result<(), F
 {
     let mut group = Group::new();
     commit_step(store, xid, scn, &mut group)?;
-    store.flush()
+    match lasting {
+        Lasting::AtOnce => store.flush(),
+        Lasting::Later => Ok(()),
+    }
 }
 
 /// Puts back so many changes of a transaction, its newest first. Each group is made in `group`.
@@ -107,6 +120,7 @@ fn commit_changes<T: Store>(
     store: &mut T,
     s: u16,
     xid: Xid,
+    lasting: Lasting,
 ) -> Result<Option<u64>, Refusal>
     requires step { IsInStep T.Store memory.old store.old }
     requires going { memory.old.stopped ≡ false }
@@ -116,19 +130,22 @@ fn commit_changes<T: Store>(
     requires free { is_queued s memory.old.waits ≡ false }
     ensures step { IsInStep T.Store memory.new store.new }
     ensures did { (h : State) → Stands T.Store h (record { memory = memory.old; store = store.old })
-        → Does T.Store h (machine.Commit s) (commit_answer result)
+        → Does T.Store h (commit_call lasting s) (commit_answer (number_told lasting) result)
         (record { memory = memory.old; store = store.old }) (record { memory = memory.new; store = store.new }) }
     ensures makes { (h : State) → Stands T.Store h (record { memory = memory.old; store = store.old })
-        → err_is is_disk_fault result ≡ false → Makes h (machine.Commit s) (commit_answer result)
-        (T.lsn store.new) (T.blocks store.old) (T.blocks store.new) }
+        → err_is is_disk_fault result ≡ false
+        → Makes h (commit_call lasting s) (commit_answer (number_told lasting) result) (T.lsn store.new)
+        (T.blocks store.old) (T.blocks store.new) }
     ensures rows { (h : State) → Stands T.Store h (record { memory = memory.old; store = store.old })
         → OnOk result (KeepsRows h.shape (T.blocks store.old) (T.blocks store.new)) }
     ensures holds_back { HasNoNumber result → T.holds_back store.old store.new }
+    ensures waits { lasting ≡ Lasting.Later → err_is is_disk_fault result ≡ false
+        → T.holds_back store.old store.new }
     ensures same { SameStore T.Store store.old store.new }
     ensures disk { IsCountedAs (T.faults store.old) (T.faults store.new) (err_is is_disk_fault result) }
 {
     let scn = memory.scn.saturating_add(1);
-    match commit_and_flush(store, xid, scn) {
+    match give_commit(store, xid, scn, lasting) {
         Ok(()) => {
             memory.sessions.commit(s);
             memory.waits.free(s);
@@ -153,15 +170,16 @@ fn end_without_changes<T: Store>(
     requires none { (kept_at memory.old.sessions s).count ≡ 0 }
     requires free { is_queued s memory.old.waits ≡ false }
     ensures step { IsInStep T.Store memory.new store.new }
-    ensures did { (h : State) → Stands T.Store h (record { memory = memory.old; store = store.old })
-        → Does T.Store h (machine.Commit s) (commit_answer result)
+    ensures did { (l : Lasting) (h : State) → Stands T.Store h (record { memory = memory.old; store = store.old })
+        → Does T.Store h (commit_call l s) (commit_answer (number_told l) result)
         (record { memory = memory.old; store = store.old }) (record { memory = memory.new; store = store.new }) }
-    ensures makes { (h : State) → Stands T.Store h (record { memory = memory.old; store = store.old })
-        → err_is is_disk_fault result ≡ false → Makes h (machine.Commit s) (commit_answer result)
+    ensures makes { (l : Lasting) (h : State)
+        → Stands T.Store h (record { memory = memory.old; store = store.old })
+        → err_is is_disk_fault result ≡ false → Makes h (commit_call l s) (commit_answer (number_told l) result)
         (T.lsn store.new) (T.blocks store.old) (T.blocks store.new) }
     ensures rows { (h : State) → Stands T.Store h (record { memory = memory.old; store = store.old })
         → OnOk result (KeepsRows h.shape (T.blocks store.old) (T.blocks store.new)) }
-    ensures holds_back { HasNoNumber result → T.holds_back store.old store.new }
+    ensures holds_back { err_is is_disk_fault result ≡ false → T.holds_back store.old store.new }
     ensures same { SameStore T.Store store.old store.new }
     ensures disk { IsCountedAs (T.faults store.old) (T.faults store.new) (err_is is_disk_fault result) }
 {
@@ -213,25 +231,29 @@ pub fn do_commit<T: Store>(
     memory: &mut Memory,
     store: &mut T,
     s: u16,
+    lasting: Lasting,
 ) -> Result<Option<u64>, Refusal>
     requires step { IsInStep T.Store memory.old store.old }
     ensures step { IsInStep T.Store memory.new store.new }
     ensures did { (h : State) → Stands T.Store h (record { memory = memory.old; store = store.old })
-        → Does T.Store h (machine.Commit s) (commit_answer result)
+        → Does T.Store h (commit_call lasting s) (commit_answer (number_told lasting) result)
         (record { memory = memory.old; store = store.old }) (record { memory = memory.new; store = store.new }) }
     ensures makes { (h : State) → Stands T.Store h (record { memory = memory.old; store = store.old })
-        → err_is is_disk_fault result ≡ false → Makes h (machine.Commit s) (commit_answer result)
-        (T.lsn store.new) (T.blocks store.old) (T.blocks store.new) }
+        → err_is is_disk_fault result ≡ false
+        → Makes h (commit_call lasting s) (commit_answer (number_told lasting) result) (T.lsn store.new)
+        (T.blocks store.old) (T.blocks store.new) }
     ensures rows { (h : State) → Stands T.Store h (record { memory = memory.old; store = store.old })
         → OnOk result (KeepsRows h.shape (T.blocks store.old) (T.blocks store.new)) }
     ensures holds_back { HasNoNumber result → T.holds_back store.old store.new }
+    ensures waits { lasting ≡ Lasting.Later → err_is is_disk_fault result ≡ false
+        → T.holds_back store.old store.new }
     ensures same { SameStore T.Store store.old store.new }
     ensures disk { IsCountedAs (T.faults store.old) (T.faults store.new) (err_is is_disk_fault result) }
 {
     check_session(memory, s)?;
     let session = memory.sessions.session(s);
     match session.own {
-        Some(xid) if session.length > 0 => commit_changes(memory, store, s, xid),
+        Some(xid) if session.length > 0 => commit_changes(memory, store, s, xid, lasting),
         // A rollback to a savepoint may have left the slot alone.
         Some(xid) => end_without_changes(memory, store, s, xid),
         None => {
@@ -268,13 +290,14 @@ pub fn do_rollback<T: Store>(memory: &mut Memory, store: &mut T, s: u16) -> Resu
 }
 
 impl<T: Store> Engine<T> {
-    /// Makes the session's changes one more commit, which is in the file in every image once its number is answered.
-    /// Without changes it answers None. No block of rows is written: what a commit makes true stands in a header.
+    /// Makes the session's changes one more commit, which is in the file in every image once its number is answered,
+    /// with all commits before it. Without changes it answers None. No block of rows is written: what a commit makes
+    /// true stands in a header.
     pub fn commit(&mut self, s: u16) -> Result<Option<u64>, Refusal>
         ensures did { (h : State) → Stands T.Store h self.old → Does T.Store h
-            (machine.Commit s) (commit_answer result) self.old self.new }
+            (machine.Commit s) (commit_answer machine.Committed result) self.old self.new }
         ensures makes { (h : State) → Stands T.Store h self.old → err_is is_disk_fault result ≡ false
-            → Makes h (machine.Commit s) (commit_answer result)
+            → Makes h (machine.Commit s) (commit_answer machine.Committed result)
             (T.lsn self.new.store) (T.blocks self.old.store) (T.blocks self.new.store) }
         ensures rows { (h : State) → Stands T.Store h self.old
             → OnOk result (KeepsRows h.shape (T.blocks self.old.store) (T.blocks self.new.store)) }
@@ -283,7 +306,27 @@ impl<T: Store> Engine<T> {
         ensures disk { IsCountedAs (T.faults self.old.store) (T.faults self.new.store)
             (err_is is_disk_fault result) }
     {
-        do_commit(&mut self.memory, &mut self.store, s)
+        do_commit(&mut self.memory, &mut self.store, s, Lasting::AtOnce)
+    }
+
+    /// Makes the session's changes one more commit, which all sessions see at once. It lasts for certain once a later
+    /// `commit` with changes, `flush` or `checkpoint` has answered: a crash before may lose it, with each commit behind
+    /// it. So many commits can share one flush. Without changes it answers None.
+    pub fn commit_later(&mut self, s: u16) -> Result<Option<u64>, Refusal>
+        ensures did { (h : State) → Stands T.Store h self.old → Does T.Store h
+            (machine.CommitLater s) (commit_answer machine.Numbered result) self.old self.new }
+        ensures makes { (h : State) → Stands T.Store h self.old → err_is is_disk_fault result ≡ false
+            → Makes h (machine.CommitLater s) (commit_answer machine.Numbered result)
+            (T.lsn self.new.store) (T.blocks self.old.store) (T.blocks self.new.store) }
+        ensures rows { (h : State) → Stands T.Store h self.old
+            → OnOk result (KeepsRows h.shape (T.blocks self.old.store) (T.blocks self.new.store)) }
+        ensures holds_back { err_is is_disk_fault result ≡ false
+            → T.holds_back self.old.store self.new.store }
+        ensures same { SameStore T.Store self.old.store self.new.store }
+        ensures disk { IsCountedAs (T.faults self.old.store) (T.faults self.new.store)
+            (err_is is_disk_fault result) }
+    {
+        do_commit(&mut self.memory, &mut self.store, s, Lasting::Later)
     }
 
     /// Puts back all changes of the session's transaction, one by one, closes the cursors that saw them, and ends it.

@@ -6,7 +6,7 @@ use Rattle.rb_base.specs.declared.shape.Shape.{Shape}
 use Rattle.rb_generator.specs.Counted.{counts_of}
 use Rattle.rb_generator.specs.Draws.{commands_of, next, number_of, state_after}
 use Rattle.rb_generator.specs.Summary.{summary_text}
-use Rattle.rb_model.specs.Calls.{Done, Waits, Numbered, Given, End, Refused, Insert, Update, Delete, Lock}
+use Rattle.rb_model.specs.Calls.{Done, Waits, Committed, Given, End, Refused, Insert, Update, Delete, Lock}
 use Rattle.rb_model.specs.Lines.{WriteLine, CommitLine, OpenLine, FetchLine}
 use Rattle.rb_model.specs.declared.refusal.Refusal.TheVariants.{Duplicate, SlotsFull}
 
@@ -46,7 +46,7 @@ unfolding next number_of
 four = rw (decimal_digit 1 (omega arith), decimal_digit 3 (omega arith)) refl
 
 -- Only a commit that takes a number counts as one; the end of a fetch counts as nothing.
-counted : counts_of (Done ∷ Numbered 7 ∷ Given 1 (codes "a") ∷ End ∷ Given 2 (codes "b") ∷ Waits 3 ∷ Refused SlotsFull ∷ Refused Duplicate ∷ [])
+counted : counts_of (Done ∷ Committed 7 ∷ Given 1 (codes "a") ∷ End ∷ Given 2 (codes "b") ∷ Waits 3 ∷ Refused SlotsFull ∷ Refused Duplicate ∷ [])
     ≡ record { committed = 1; rows = 2; waits = 1; refused = 2 }
 counted = refl
 

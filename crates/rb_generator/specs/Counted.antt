@@ -2,9 +2,10 @@
 use Rattle.std.specs.Prelude.{◌≡◌, ℕ, ◌+◌, ◌≤◌, Bool, true, false, List, [], ◌∷◌}
 use Rattle.std.specs.List.{count_by}
 use Rattle.rb_generator.specs.declared.counts.Counts.{Counts}
-use Rattle.rb_model.specs.Calls.{Answer, Done, Waits, Numbered, Given, End}
+use Rattle.rb_model.specs.Calls.{Answer, Done, Waits, Committed, Numbered, Flushed, Given, End}
 
 abbrev pub is_committed : Answer → Bool
+is_committed (Committed number) = true
 is_committed (Numbered number) = true
 is_committed _ = false
 
@@ -19,7 +20,9 @@ is_wait _ = false
 -- an answer of no other kind
 abbrev pub is_refused : Answer → Bool
 is_refused Done = false
+is_refused (Committed number) = false
 is_refused (Numbered number) = false
+is_refused (Flushed number) = false
 is_refused (Given key value) = false
 is_refused End = false
 is_refused (Waits on) = false

@@ -1,3 +1,4 @@
+pub mod Acknowledged
 pub mod BookLemmas
 mod Worked
 mod WorkedBooks

@@ -4,10 +4,9 @@ use Rattle.std.proofs.Common.{◌≡◌, ◌≢◌, ◌∙◌, inl, inr, ⊎_eli
 use Rattle.std.proofs.lemmas.Bool.{cond_both, cases_Bool, false≢true}
 use Rattle.rb_base.specs.Counts.{err_is}
 use Rattle.rb_model.specs.Answers.{write_answer}
-use Rattle.rb_model.specs.Calls.{Call, Write, Commit, Rollback, SetMode, SetSavepoint, RollbackTo, OpenCursor, Fetch, CloseCursor, Cancel, Marks, Checkpoint, Answer, Done, Waits, Numbered, Given, End, Marked, Refused, is_disk_fault, is_fault}
+use Rattle.rb_model.specs.Calls.{Call, Write, Commit, CommitLater, Flush, Numbered, Flushed, Rollback, SetMode, SetSavepoint, RollbackTo, OpenCursor, Fetch, CloseCursor, Cancel, Marks, Checkpoint, Answer, Done, Waits, Committed, Given, End, Marked, Refused, is_disk_fault, is_fault}
 use Rattle.rb_model.specs.NextState.{After, AfterGrant, AfterWait, EndsAs}
 use Rattle.rb_model.specs.State.{State, Cursor}
-use Rattle.rb_model.specs.declared.row.Fetched.TheVariants as fetched
 use Rattle.rb_model.specs.declared.refusal.Refusal.{Refusal}
 use Rattle.rb_model.specs.declared.refusal.Refusal.TheVariants.{DiskFault}
 use Rattle.rb_model.specs.declared.wrote.Wrote.{Wrote}
@@ -42,6 +41,8 @@ grant_stays : (h h2 : State) (c : Call) → AfterGrant h c h2 → Stays h h2
 grant_stays h h2 (Write s table key action) (g, i, w, e) = as_stays h h2 _ e refl (length-set h.sessions (s - 1) _) refl
 grant_stays h h2 (Commit s) (inl (some, (g, i, owned, e))) = as_stays h h2 _ e refl (length-set h.sessions (s - 1) _) refl
 grant_stays h h2 (Commit s) (inr (none, ends)) = ends_stays h h2 s _ ends
+grant_stays h h2 (CommitLater s) (inl (some, (g, i, owned, e))) = as_stays h h2 _ e refl (length-set h.sessions (s - 1) _) refl
+grant_stays h h2 (CommitLater s) (inr (none, ends)) = ends_stays h h2 s _ ends
 grant_stays h h2 (Rollback s) ends = ends_stays h h2 s _ ends
 grant_stays h h2 (SetMode s mode) e = as_stays h h2 _ e refl (length-set h.sessions (s - 1) _) refl
 grant_stays h h2 (SetSavepoint s name) e = as_stays h h2 _ e refl (length-set h.sessions (s - 1) _) refl
@@ -51,11 +52,13 @@ grant_stays h h2 (Fetch s name) e = as_stays h h2 _ e refl (length-set h.session
 grant_stays h h2 (CloseCursor s name) e = as_stays h h2 _ e refl (length-set h.sessions (s - 1) _) refl
 grant_stays h h2 (Cancel s) e = as_stays h h2 _ e refl refl refl
 grant_stays h h2 (Marks seg) e = same_stays h h2 e
-grant_stays h h2 Checkpoint e = same_stays h h2 e
+grant_stays h h2 Flush e = as_stays h h2 _ e refl refl refl
+grant_stays h h2 Checkpoint e = as_stays h h2 _ e refl refl refl
 
 wait_stays : (h h2 : State) (c : Call) (on : ℕ) → AfterWait h c on h2 → Stays h h2
 wait_stays h h2 (Write s table key action) on e = as_stays h h2 _ e refl refl refl
 wait_stays h h2 (Commit s) on e = same_stays h h2 e
+wait_stays h h2 (CommitLater s) on e = same_stays h h2 e
 wait_stays h h2 (Rollback s) on e = same_stays h h2 e
 wait_stays h h2 (SetMode s mode) on e = same_stays h h2 e
 wait_stays h h2 (SetSavepoint s name) on e = same_stays h h2 e
@@ -65,6 +68,7 @@ wait_stays h h2 (Fetch s name) on e = same_stays h h2 e
 wait_stays h h2 (CloseCursor s name) on e = same_stays h h2 e
 wait_stays h h2 (Cancel s) on e = same_stays h h2 e
 wait_stays h h2 (Marks seg) on e = same_stays h h2 e
+wait_stays h h2 Flush on e = same_stays h h2 e
 wait_stays h h2 Checkpoint on e = same_stays h h2 e
 
 -- any other refusal leaves the state
@@ -78,7 +82,9 @@ refused_stops h h2 c why is after = after ∙ cond_both (is_disk_fault why) (rec
 pub fine_stays : (h h2 : State) (c : Call) (r : Answer) → is_fault r ≡ false → After h c r h2 → Stays h h2
 fine_stays h h2 c Done is after = grant_stays h h2 c after
 fine_stays h h2 c (Waits on) is after = wait_stays h h2 c on after
+fine_stays h h2 c (Committed n) is after = grant_stays h h2 c after
 fine_stays h h2 c (Numbered n) is after = grant_stays h h2 c after
+fine_stays h h2 c (Flushed n) is after = grant_stays h h2 c after
 fine_stays h h2 c (Given key value) is after = grant_stays h h2 c after
 fine_stays h h2 c End is after = same_stays h h2 after
 fine_stays h h2 c (Marked seg writes lost) is after = same_stays h h2 after
@@ -88,7 +94,9 @@ pub after_stops : (h h2 : State) (c : Call) (r : Answer) → is_fault r ≡ true
 after_stops h h2 c (Refused why) is after = refused_stops h h2 c why is after
 after_stops h h2 c Done is after = absurd (false≢true is)
 after_stops h h2 c (Waits on) is after = absurd (false≢true is)
+after_stops h h2 c (Committed n) is after = absurd (false≢true is)
 after_stops h h2 c (Numbered n) is after = absurd (false≢true is)
+after_stops h h2 c (Flushed n) is after = absurd (false≢true is)
 after_stops h h2 c (Given key value) is after = absurd (false≢true is)
 after_stops h h2 c End is after = absurd (false≢true is)
 after_stops h h2 c (Marked seg writes lost) is after = absurd (false≢true is)

@@ -4,7 +4,7 @@ use Rattle.std.specs.Prelude.{codes}
 use Rattle.std.proofs.lemmas.Fmt.{decimal_digit}
 use Rattle.std.specs.List.{range_with_len}
 use Rattle.rb_model.specs.Book.{fresh_book}
-use Rattle.rb_model.specs.Calls.{Action, Answer, Insert, Update, Delete, Commit, Fetch, Done, Numbered, Given, End, Refused, Marked, granted, first_of, early_tests, write_tests}
+use Rattle.rb_model.specs.Calls.{Action, Answer, Insert, Update, Delete, Commit, Fetch, Done, Committed, Given, End, Refused, Marked, granted, first_of, early_tests, write_tests}
 use Rattle.rb_model.specs.Change.{put, no_place, Gone, Held}
 use Rattle.rb_model.specs.Lines.{WriteLine, OpenLine, RollbackLine, MarksLine, spelling, lines_of, without_return, reply_text}
 use Rattle.rb_model.specs.NextState as next
@@ -47,7 +47,7 @@ c = 99 ∷ []
 abbrev committed : State
 committed = commit (write start 1 (Insert a))
 
-numbered : granted (write start 1 (Insert a)) (Commit 1) ≡ Numbered 1
+numbered : granted (write start 1 (Insert a)) (Commit 1) ≡ Committed 1
 numbered = refl
 
 fetched : granted (open_c committed) (Fetch 1 c) ≡ Given 1 a

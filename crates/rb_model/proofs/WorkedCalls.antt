@@ -1,7 +1,7 @@
 -- The calls of the machine, computed on worked rows.
 use Rattle.std.proofs.Common.{◌≡◌, ℕ, false, List, [], ◌∷◌, length, get_or, None, Some, refl, arith}
 use Rattle.rb_model.specs.Book.{book_at, book_slot, fresh_book}
-use Rattle.rb_model.specs.Calls.{Action, Insert, Update, Delete, Lock, Owned, rows_now, Answer, Done, Refused, first_of, write_tests}
+use Rattle.rb_model.specs.Calls.{Action, Insert, Delete, Lock, Owned, rows_now, Answer, Done, Refused, first_of, write_tests}
 use Rattle.rb_model.specs.State.{State, Cursor, Savepoint, no_session, savepoint_of, session_of, session_own}
 use Rattle.rb_model.specs.NextState.{change_in, committed, ended, left_open, opened_cursor, rolled_to, with_cursors, with_savepoint, with_savepoints, without_owner, written}
 use Rattle.rb_model.specs.Rows.{last_scn}
@@ -16,6 +16,7 @@ fresh = record {
   books = fresh_book ∷ [];
   queue = [];
   asked = None ∷ [];
+  safe = 0;
   stopped = false;
 }
 

@@ -18,6 +18,7 @@ with_sessions books sessions = record {
   books = books;
   queue = [];
   asked = map (λ s. None) sessions;
+  safe = 0;
   stopped = false;
 }
 

@@ -1,6 +1,6 @@
 -- What the arguments and results of the engine's calls are as the machine's actions and answers.
 use Rattle.std.specs.Prelude.{◌≡◌, ℕ, Option, None, Some, Result, Ok, Err}
-use Rattle.rb_model.specs.Calls.{Action, Answer, Waits, Numbered, Given, Marked, Refused}
+use Rattle.rb_model.specs.Calls.{Action, Answer, Waits, Committed, Numbered, Flushed, Given, Marked, Refused}
 use Rattle.rb_model.specs.Calls as calls
 use Rattle.rb_model.specs.declared.outcome.Outcome as code
 use Rattle.rb_model.specs.declared.outcome.Outcome.TheVariants as answers
@@ -33,13 +33,18 @@ abbrev pub write_answer : Result Wrote Refusal → Answer
 write_answer (Ok w) = wrote_answer w
 write_answer (Err why) = Refused why
 
-abbrev pub number_answer : Option ℕ → Answer
-number_answer None = calls.Done
-number_answer (Some n) = Numbered n
+-- of a commit, by the answer that tells its number
+abbrev pub number_answer : (ℕ → Answer) → Option ℕ → Answer
+number_answer told None = calls.Done
+number_answer told (Some n) = told n
 
-abbrev pub commit_answer : Result (Option ℕ) Refusal → Answer
-commit_answer (Ok number) = number_answer number
-commit_answer (Err why) = Refused why
+abbrev pub commit_answer : (ℕ → Answer) → Result (Option ℕ) Refusal → Answer
+commit_answer told (Ok number) = number_answer told number
+commit_answer told (Err why) = Refused why
+
+abbrev pub flush_answer : Result ℕ Refusal → Answer
+flush_answer (Ok number) = Flushed number
+flush_answer (Err why) = Refused why
 
 abbrev pub plain_answer : Result (Unit {0}) Refusal → Answer
 plain_answer (Ok done) = calls.Done
@@ -69,7 +74,9 @@ LeavesRow (Err why) old new = new ≡ old
 abbrev pub answer_of : code.Outcome → Row → Answer
 answer_of answers.Done row = calls.Done
 answer_of (answers.Waits on) row = Waits on
-answer_of (answers.Committed number) row = Numbered number
+answer_of (answers.Committed number) row = Committed number
+answer_of (answers.Numbered number) row = Numbered number
+answer_of (answers.Flushed number) row = Flushed number
 answer_of answers.Row row = Given row.key row.value.items
 answer_of answers.End row = calls.End
 answer_of (answers.Marked seg writes lost) row = Marked seg writes lost

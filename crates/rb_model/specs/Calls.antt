@@ -34,6 +34,8 @@ use Rattle.rb_model.specs.declared.refusal.Refusal.TheVariants.{TooManyCursors, 
 pub data Call : Type 0 where
   Write : (session table key : ℕ) (action : Action) → Call
   Commit : (session : ℕ) → Call
+  -- a commit that is made last by a later call
+  CommitLater : (session : ℕ) → Call
   Rollback : (session : ℕ) → Call
   SetMode : (session : ℕ) (mode : Mode) → Call
   SetSavepoint : (session : ℕ) (name : List ℕ) → Call
@@ -44,6 +46,8 @@ pub data Call : Type 0 where
   -- the session's write is given up
   Cancel : (session : ℕ) → Call
   Marks : (seg : ℕ) → Call
+  -- all that waits is made last
+  Flush : Call
   Checkpoint : Call
 
 pub data Answer : Type 0 where
@@ -51,8 +55,12 @@ pub data Answer : Type 0 where
   Done : Answer
   -- a write that waits for that session
   Waits : ℕ → Answer
-  -- a commit that took this number
+  -- a commit that took this number, and is acknowledged
+  Committed : ℕ → Answer
+  -- one that took it, and isn't acknowledged yet
   Numbered : ℕ → Answer
+  -- all commits are acknowledged, and this is the number of the last
+  Flushed : ℕ → Answer
   -- the next row has this key and value
   Given : (key : ℕ) (value : List ℕ) → Answer
   -- all rows are given
@@ -197,6 +205,7 @@ early_tests h (Write s table key action) =
     session_tests h s ++ (is_read_only (isolation_of h s), Refused ReadOnly)
     ∷ (not (is_table h table), Refused NoTable) ∷ (is_too_long action, Refused ValueTooLong) ∷ []
 early_tests h (Commit s) = session_tests h s
+early_tests h (CommitLater s) = session_tests h s
 early_tests h (Rollback s) = session_tests h s
 early_tests h (SetMode s mode) = session_tests h s
 early_tests h (SetSavepoint s name) = session_tests h s
@@ -207,6 +216,7 @@ early_tests h (Fetch s name) = session_tests h s
 early_tests h (CloseCursor s name) = session_tests h s
 early_tests h (Cancel s) = number_tests h s
 early_tests h (Marks seg) = (h.stopped, Refused Stopped) ∷ []
+early_tests h Flush = (h.stopped, Refused Stopped) ∷ []
 early_tests h Checkpoint = (h.stopped, Refused Stopped) ∷ []
 
 -- the tests of a write of a session that writes in slot i of segment g, behind that log number
@@ -239,8 +249,10 @@ name_tests h (CloseCursor s name) = (is_none (cursor_of h s name), Refused NoCur
 name_tests h (Cancel s) = (not (is_waiting h s), Refused NotWaiting) ∷ []
 name_tests h (Write s table key action) = []
 name_tests h (Commit s) = []
+name_tests h (CommitLater s) = []
 name_tests h (Rollback s) = []
 name_tests h (Marks seg) = []
+name_tests h Flush = []
 name_tests h Checkpoint = []
 
 -- a row as the answer to a fetch, or the end
@@ -255,7 +267,8 @@ next_row h (Some cursor) = given (slice_get (cursor_rows h cursor) cursor.taken)
 -- what a call answers that no test refuses
 abbrev pub granted : State → Call → Answer
 granted h (Write s table key action) = Done
-granted h (Commit s) = if is_empty (session_own h s) then Done else Numbered (last_scn h.commits + 1)
+granted h (Commit s) = if is_empty (session_own h s) then Done else Committed (last_scn h.commits + 1)
+granted h (CommitLater s) = if is_empty (session_own h s) then Done else Numbered (last_scn h.commits + 1)
 granted h (Rollback s) = Done
 granted h (SetMode s mode) = Done
 granted h (SetSavepoint s name) = Done
@@ -265,6 +278,7 @@ granted h (Fetch s name) = next_row h (cursor_of h s name)
 granted h (CloseCursor s name) = Done
 granted h (Cancel s) = Done
 granted h (Marks seg) = Marked seg (book_at h.books seg).writes (book_at h.books seg).lost
+granted h Flush = Flushed (last_scn h.commits)
 granted h Checkpoint = Done
 
 -- the answer of the first test that applies, or else the good one

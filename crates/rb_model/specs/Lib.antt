@@ -14,5 +14,6 @@ pub mod NextState
 pub mod Out
 pub mod Queue
 pub mod Rows
+pub mod Safe
 pub mod State
 pub mod Tests

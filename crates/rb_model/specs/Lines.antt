@@ -7,10 +7,10 @@ use Rattle.std.specs.List.{list_all, AllByRecursion}
 use Rattle.std.specs.Fmt.{decimal}
 use Rattle.rb_model.specs.NameTest.{is_name}
 use Rattle.rb_base.specs.declared.shape.Shape.{Shape}
-use Rattle.rb_model.specs.Calls.{Action, Insert, Update, Delete, Lock, Answer, Done, Waits, Numbered, Given, End}
-use Rattle.rb_model.specs.Calls.{Marked, Refused, number_text, refusal_text}
-use Rattle.rb_model.specs.Calls.{Call, Write, Commit, Rollback, SetMode, SetSavepoint, RollbackTo, OpenCursor, Fetch}
-use Rattle.rb_model.specs.Calls.{CloseCursor, Cancel, Marks, Checkpoint}
+use Rattle.rb_model.specs.Calls.{Action, Insert, Update, Delete, Lock, Answer, Done, Waits, Committed, Numbered}
+use Rattle.rb_model.specs.Calls.{Flushed, Given, End, Marked, Refused, number_text, refusal_text}
+use Rattle.rb_model.specs.Calls.{Call, Write, Commit, CommitLater, Rollback, SetMode, SetSavepoint, RollbackTo}
+use Rattle.rb_model.specs.Calls.{OpenCursor, Fetch, CloseCursor, Cancel, Marks, Flush, Checkpoint}
 use Rattle.rb_model.specs.declared.mode.Mode.{Mode}
 use Rattle.rb_model.specs.declared.mode.Mode.TheVariants as mode
 
@@ -39,6 +39,7 @@ is_remark (b ∷ line) = b == 35
 pub data Command : Type 0 where
   WriteLine : (session table key : ℕ) (action : Action) → Command
   CommitLine : (session : ℕ) → Command
+  CommitLaterLine : (session : ℕ) → Command
   RollbackLine : (session : ℕ) → Command
   SetLine : (session : ℕ) (mode : Mode) → Command
   SavepointLine : (session : ℕ) (name : List ℕ) → Command
@@ -48,12 +49,14 @@ pub data Command : Type 0 where
   CloseLine : (session : ℕ) (name : List ℕ) → Command
   CancelLine : (session : ℕ) → Command
   MarksLine : Command
+  FlushLine : Command
   CheckpointLine : Command
 
 -- what a command calls as its k-th call, from 0 on
 abbrev pub call_of : Command → ℕ → Call
 call_of (WriteLine s table key action) k = Write s table key action
 call_of (CommitLine s) k = Commit s
+call_of (CommitLaterLine s) k = CommitLater s
 call_of (RollbackLine s) k = Rollback s
 call_of (SetLine s mode) k = SetMode s mode
 call_of (SavepointLine s name) k = SetSavepoint s name
@@ -63,6 +66,7 @@ call_of (FetchLine s name count) k = Fetch s name
 call_of (CloseLine s name) k = CloseCursor s name
 call_of (CancelLine s) k = Cancel s
 call_of MarksLine k = Marks k
+call_of FlushLine k = Flush
 call_of CheckpointLine k = Checkpoint
 
 -- and how often at most, over a file of that shape
@@ -75,6 +79,7 @@ most_calls shape _ = 1
 abbrev pub caller : Command → Option ℕ
 caller (WriteLine s table key action) = Some s
 caller (CommitLine s) = Some s
+caller (CommitLaterLine s) = Some s
 caller (RollbackLine s) = Some s
 caller (SetLine s mode) = Some s
 caller (SavepointLine s name) = Some s
@@ -84,6 +89,7 @@ caller (FetchLine s name count) = Some s
 caller (CloseLine s name) = Some s
 caller (CancelLine s) = Some s
 caller MarksLine = None
+caller FlushLine = None
 caller CheckpointLine = None
 
 -- the first word of a command's line
@@ -101,6 +107,7 @@ pub data Word : Type 0 where
   CloseWord : Word
   CancelWord : Word
   MarksWord : Word
+  FlushWord : Word
   CheckpointWord : Word
 
 abbrev pub word_text : Word → List ℕ
@@ -117,6 +124,7 @@ word_text FetchWord = codes "fetch"
 word_text CloseWord = codes "close"
 word_text CancelWord = codes "cancel"
 word_text MarksWord = codes "marks"
+word_text FlushWord = codes "flush"
 word_text CheckpointWord = codes "checkpoint"
 
 abbrev pub word_of : Command → Word
@@ -125,6 +133,7 @@ word_of (WriteLine s table key (Update value)) = UpdateWord
 word_of (WriteLine s table key Delete) = DeleteWord
 word_of (WriteLine s table key Lock) = LockWord
 word_of (CommitLine s) = CommitWord
+word_of (CommitLaterLine s) = CommitWord
 word_of (RollbackLine s) = RollbackWord
 word_of (SetLine s mode) = SetWord
 word_of (SavepointLine s name) = SavepointWord
@@ -134,10 +143,11 @@ word_of (FetchLine s name count) = FetchWord
 word_of (CloseLine s name) = CloseWord
 word_of (CancelLine s) = CancelWord
 word_of MarksLine = MarksWord
+word_of FlushLine = FlushWord
 word_of CheckpointLine = CheckpointWord
 
 -- A field after the word: the number of a session or a table, a key, how many rows, the name of a savepoint or cursor,
--- the value of a row, or a mode.
+-- the value of a row, a mode, or the word `later`.
 pub data Field : Type 0 where
   Id : (n : ℕ) → Field
   Key : (n : ℕ) → Field
@@ -145,6 +155,7 @@ pub data Field : Type 0 where
   Named : (name : List ℕ) → Field
   Valued : (value : List ℕ) → Field
   Moded : (mode : Mode) → Field
+  Later : Field
 
 abbrev pub fields_of : Command → List Field
 fields_of (WriteLine s table key (Insert value)) = Id s ∷ Id table ∷ Key key ∷ Valued value ∷ []
@@ -152,6 +163,7 @@ fields_of (WriteLine s table key (Update value)) = Id s ∷ Id table ∷ Key key
 fields_of (WriteLine s table key Delete) = Id s ∷ Id table ∷ Key key ∷ []
 fields_of (WriteLine s table key Lock) = Id s ∷ Id table ∷ Key key ∷ []
 fields_of (CommitLine s) = Id s ∷ []
+fields_of (CommitLaterLine s) = Id s ∷ Later ∷ []
 fields_of (RollbackLine s) = Id s ∷ []
 fields_of (SetLine s mode) = Id s ∷ Moded mode ∷ []
 fields_of (SavepointLine s name) = Id s ∷ Named name ∷ []
@@ -161,6 +173,7 @@ fields_of (FetchLine s name count) = Id s ∷ Named name ∷ Count count ∷ []
 fields_of (CloseLine s name) = Id s ∷ Named name ∷ []
 fields_of (CancelLine s) = Id s ∷ []
 fields_of MarksLine = []
+fields_of FlushLine = []
 fields_of CheckpointLine = []
 
 abbrev pub mode_text : Mode → List ℕ
@@ -175,6 +188,7 @@ field_text (Count n) = decimal n
 field_text (Named name) = name
 field_text (Valued value) = value
 field_text (Moded mode) = mode_text mode
+field_text Later = codes "later"
 
 -- a space before each field
 abbrev pub fields_text : List Field → List ℕ
@@ -197,6 +211,7 @@ IsField (Count n) = (1 ≤ n) × (n ≤ 1000000)
 IsField (Named name) = IsTrue (is_name name)
 IsField (Valued value) = IsTrue (is_value value)
 IsField (Moded mode) = Unit {0}
+IsField Later = Unit {0}
 
 -- the parts of a command are in range
 abbrev pub IsCommand : Command → Type 0
@@ -213,7 +228,9 @@ SpellsNone text = (command : Command) → IsCommand command → text ≢ spellin
 abbrev pub answer_text : Answer → List ℕ
 answer_text Done = codes "ok"
 answer_text (Waits on) = codes "waits" ++ number_text on
-answer_text (Numbered n) = codes "committed" ++ number_text n
+answer_text (Committed n) = codes "committed" ++ number_text n
+answer_text (Numbered n) = codes "numbered" ++ number_text n
+answer_text (Flushed n) = codes "flushed" ++ number_text n
 answer_text (Given key value) = codes "row" ++ number_text key ++ 32 ∷ value
 answer_text End = codes "end"
 answer_text (Marked seg writes lost) =

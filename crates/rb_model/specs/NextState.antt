@@ -5,8 +5,10 @@ use Rattle.std.specs.Prelude.{if◌then◌else◌, cond, List, [], ◌∷◌, �
 use Rattle.std.specs.Prelude.{Some}
 use Rattle.std.specs.Str.{bytes_eq}
 use Rattle.rb_model.specs.Book.{Book, book_at, finished, left, marked, taken}
-use Rattle.rb_model.specs.Calls.{Call, Write, Commit, Rollback, OpenCursor, Fetch, CloseCursor, Marks, Checkpoint}
-use Rattle.rb_model.specs.Calls.{Answer, Done, Waits, Numbered, Given, End, Marked, Refused, is_disk_fault}
+use Rattle.rb_model.specs.Calls.{Call, Write, Commit, CommitLater, Rollback, OpenCursor, Fetch, CloseCursor, Marks}
+use Rattle.rb_model.specs.Calls.{Flush, Checkpoint}
+use Rattle.rb_model.specs.Calls.{Answer, Done, Waits, Committed, Numbered, Flushed, Given, End, Marked, Refused}
+use Rattle.rb_model.specs.Calls.{is_disk_fault}
 use Rattle.rb_model.specs.Calls.{Action, Insert, Update, Delete, Lock, SetMode, SetSavepoint, RollbackTo, Cancel}
 use Rattle.rb_model.specs.Calls.{is_empty, without_savepoint}
 use Rattle.rb_model.specs.Calls.{Owned, HasNoSlot, WritesIn, has_slot}
@@ -14,7 +16,7 @@ use Rattle.rb_model.specs.Change.{Asked, Change, Kind, Put, Gone, Held}
 use Rattle.rb_model.specs.Isolation.{isolation_at, snapshot_at}
 use Rattle.rb_model.specs.Queue.{freed_by, left_by, waiting}
 use Rattle.rb_model.specs.State.{State, Cursor, Savepoint, no_session, isolation_of, savepoint_of, session_of}
-use Rattle.rb_model.specs.State.{session_own, with_changes}
+use Rattle.rb_model.specs.State.{all_safe, session_own, with_changes}
 use Rattle.rb_model.specs.Rows.{last_scn}
 use Rattle.rb_model.specs.declared.mode.Isolation.{Isolation}
 use Rattle.rb_model.specs.declared.refusal.Refusal.{Refusal}
@@ -93,6 +95,14 @@ EndsAs h s cursors h2 =
     ((g : ℕ) × (i : ℕ) × Owned h s g i × (h2 ≡ freeing (without_owner g i (ended h s cursors)) s))
     ⊎ (HasNoSlot h s × (h2 ≡ freeing (ended h s cursors) s))
 
+-- After a commit: where the session has changes, the state with one commit more as `made` gives it; else that after the
+-- end of its transaction.
+abbrev pub CommitsAs : State → ℕ → (State → State) → State → Type 0
+CommitsAs h s made h2 =
+    ((is_empty (session_own h s) ≡ false)
+    × ((g : ℕ) × (i : ℕ) × Owned h s g i × (h2 ≡ made (freeing (committed h s g i) s))))
+    ⊎ ((is_empty (session_own h s) ≡ true) × EndsAs h s (cursors_of h s) h2)
+
 abbrev pub with_cursors : State → ℕ → List Cursor → State
 with_cursors h s cursors = record h {
   sessions = set h.sessions (s - 1) (record (session_of h s) { cursors = cursors });
@@ -157,10 +167,8 @@ without_cursor name (c ∷ cursors) = cond (bytes_eq c.name name) cursors (c ∷
 abbrev pub AfterGrant : State → Call → State → Type 0
 AfterGrant h (Write s table key action) h2 =
     (g : ℕ) × (i : ℕ) × WritesIn h s g i × (h2 ≡ written h s g i (change_in h g table key action))
-AfterGrant h (Commit s) h2 =
-    ((is_empty (session_own h s) ≡ false)
-    × ((g : ℕ) × (i : ℕ) × Owned h s g i × (h2 ≡ freeing (committed h s g i) s)))
-    ⊎ ((is_empty (session_own h s) ≡ true) × EndsAs h s (cursors_of h s) h2)
+AfterGrant h (Commit s) h2 = CommitsAs h s all_safe h2
+AfterGrant h (CommitLater s) h2 = CommitsAs h s (λ h. h) h2
 AfterGrant h (Rollback s) h2 = EndsAs h s (left_open 0 (cursors_of h s)) h2
 AfterGrant h (SetMode s mode) h2 = h2 ≡ with_isolation h s (isolation_at (last_scn h.commits) mode)
 AfterGrant h (SetSavepoint s name) h2 =
@@ -173,7 +181,8 @@ AfterGrant h (Fetch s name) h2 = h2 ≡ with_cursors h s (with_taken name (curso
 AfterGrant h (CloseCursor s name) h2 = h2 ≡ with_cursors h s (without_cursor name (cursors_of h s))
 AfterGrant h (Cancel s) h2 = h2 ≡ unqueued h s
 AfterGrant h (Marks seg) h2 = h2 ≡ h
-AfterGrant h Checkpoint h2 = h2 ≡ h
+AfterGrant h Flush h2 = h2 ≡ all_safe h
+AfterGrant h Checkpoint h2 = h2 ≡ all_safe h
 
 -- after a call that has to wait for that session: a write
 abbrev pub AfterWait : State → Call → ℕ → State → Type 0
@@ -185,7 +194,9 @@ AfterWait h call on h2 = h2 ≡ h
 abbrev pub After : State → Call → Answer → State → Type 0
 After h call Done h2 = AfterGrant h call h2
 After h call (Waits on) h2 = AfterWait h call on h2
+After h call (Committed n) h2 = AfterGrant h call h2
 After h call (Numbered n) h2 = AfterGrant h call h2
+After h call (Flushed n) h2 = AfterGrant h call h2
 After h call (Given key value) h2 = AfterGrant h call h2
 After h call End h2 = h2 ≡ h
 After h call (Marked seg writes lost) h2 = h2 ≡ h
@@ -198,10 +209,14 @@ abbrev pub Ends : State → ℕ → ℕ → ℕ → Type 0
 Ends h s back n =
     ((g : ℕ) × (i : ℕ) × Owned h s g i × (n ≡ back + 1)) ⊎ (HasNoSlot h s × (n ≡ 0))
 
+abbrev pub CommitGrows : State → ℕ → ℕ → Type 0
+CommitGrows h s n = ((is_empty (session_own h s) ≡ false) × (n ≡ 1))
+    ⊎ ((is_empty (session_own h s) ≡ true) × Ends h s 0 n)
+
 abbrev pub GrowsBy : State → Call → ℕ → Type 0
 GrowsBy h (Write s table key action) n = n ≡ 1
-GrowsBy h (Commit s) n = ((is_empty (session_own h s) ≡ false) × (n ≡ 1))
-    ⊎ ((is_empty (session_own h s) ≡ true) × Ends h s 0 n)
+GrowsBy h (Commit s) n = CommitGrows h s n
+GrowsBy h (CommitLater s) n = CommitGrows h s n
 GrowsBy h (Rollback s) n = Ends h s (length (session_own h s)) n
 GrowsBy h (SetMode s mode) n = n ≡ 0
 GrowsBy h (SetSavepoint s name) n = n ≡ 0
@@ -212,6 +227,7 @@ GrowsBy h (Fetch s name) n = n ≡ 0
 GrowsBy h (CloseCursor s name) n = n ≡ 0
 GrowsBy h (Cancel s) n = n ≡ 0
 GrowsBy h (Marks seg) n = n ≡ 0
+GrowsBy h Flush n = n ≡ 0
 GrowsBy h Checkpoint n = n ≡ 0
 
 -- A fetch may clean the blocks that it reads, by one group each: so it gives the log any number of groups up to the
@@ -227,7 +243,9 @@ RefusedBy h call why n = n ≡ 0
 
 abbrev pub Grows : State → Call → Answer → ℕ → Type 0
 Grows h call Done n = GrowsBy h call n
+Grows h call (Committed m) n = GrowsBy h call n
 Grows h call (Numbered m) n = GrowsBy h call n
+Grows h call (Flushed m) n = GrowsBy h call n
 Grows h call (Waits on) n = n ≡ 0
 Grows h call (Given key value) n = ReadsBy h call n
 Grows h call End n = ReadsBy h call n

@@ -7,7 +7,7 @@ use Rattle.rb_base.specs.declared.shape.Shape.{Shape}
 use Rattle.rb_model.specs.Book.{Owner, Book, book_at, slot_owner}
 use Rattle.rb_model.specs.Change.{Asked, Change}
 use Rattle.rb_model.specs.Queue.{Waiter, is_queued}
-use Rattle.rb_model.specs.Rows.{Commits, TableRow, answer}
+use Rattle.rb_model.specs.Rows.{Commits, TableRow, answer, last_scn}
 use Rattle.rb_model.specs.declared.mode.Isolation.{Isolation}
 use Rattle.rb_model.specs.declared.mode.Isolation.TheVariants.{ReadCommitted}
 
@@ -52,6 +52,8 @@ pub record State : Type 0 where
   pub queue : List Waiter
   -- the write with which each session waits, or has waited last
   pub asked : List (Option Asked)
+  -- the number up to which commits are acknowledged: each of these is in the file, whatever happens
+  pub safe : ℕ
   -- a call has answered that the disk failed
   pub stopped : Bool
 
@@ -113,6 +115,10 @@ abbrev pub cursor_rows : State → Cursor → List TableRow
 cursor_rows h cursor =
     answer h.shape.blocks h.commits cursor.table cursor.lo cursor.hi cursor.number cursor.own
 
+-- all commits are acknowledged
+abbrev pub all_safe : State → State
+all_safe h = record h { safe = last_scn h.commits }
+
 -- The state that a file of that commit number, these rows and these books opens to: they are the base, and nothing is
 -- under way.
 abbrev pub opened : Shape → ℕ → List TableRow → List Book → State
@@ -123,5 +129,6 @@ opened shape number rows books = record {
   books = books;
   queue = [];
   asked = replicate session_count None;
+  safe = number;
   stopped = false;
 }

@@ -1,6 +1,6 @@
 -- What a write's tests ask of the machine: who holds a key, whether other sessions fill its home, and how many records
 -- a segment has made since the first of its owners began. And what is owed.
-use Rattle.std.specs.Prelude.{ℕ, ◌-◌, ◌*◌, ◌==◌, ◌&&◌, Bool, not, min, nat_le}
+use Rattle.std.specs.Prelude.{ℕ, ◌-◌, ◌==◌, ◌&&◌, Bool, not, min, nat_le}
 use Rattle.std.specs.Prelude.{List, [], ◌∷◌, length, filter, find, Option, None, Some}
 use Rattle.std.specs.List.{list_any, range_with_len}
 use Rattle.rb_base.specs.declared.shape.Shape.{Shape}

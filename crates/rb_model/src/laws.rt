@@ -1,7 +1,9 @@
-//! What holds of a segment's book, as clauses for proofs to cite. Nothing calls it.
+//! What holds of a segment's book and of what is acknowledged, as clauses for proofs to cite. Nothing calls it.
 ghost use Rattle.rb_model.specs.BookLaws.{FreshIsSound, TakenIsSound, MarkedIsSound, FinishedIsSound, LeftIsSound};
 ghost use Rattle.rb_model.specs.BookLaws.{CountsRecords, KeepsLost, DropsOneTurn, DropsNoOwnersTurn, ReusesOneSlot};
 ghost use Rattle.rb_model.specs.BookLaws.{BeginsThere, BeginsAtOne, FullSince, KeepsSlots, KeepsNewest};
+ghost use Rattle.rb_model.specs.Out.{outside_by};
+ghost use Rattle.rb_model.specs.Safe.{CheckpointIsSafe, KeepsSafe, LaterIsNotSafe, LinesKeepSafe, ToldIsSafe};
 
 /// A new book is sound, and each move keeps a book so. Records and what is lost never become fewer. What is lost rises
 /// only to the number of the oldest turn, in which no owner has made a record, or of the slot that is taken, which is
@@ -23,4 +25,16 @@ pub fn book_laws()
     ensures begun { BeginsThere }
     ensures one { BeginsAtOne }
     ensures since { FullSince }
+{}
+
+/// What acknowledges commits: the answers `committed` and `flushed`, which tell the number of the last one, and that of
+/// a checkpoint. A later commit acknowledges nothing, and nothing that is acknowledged is taken back, by a call or by
+/// the lines of a script.
+pub fn safe_laws()
+    ensures told { ToldIsSafe }
+    ensures checkpoint { CheckpointIsSafe }
+    ensures later { LaterIsNotSafe }
+    ensures call { KeepsSafe }
+    ensures lines { LinesKeepSafe (outside_by (λ h blocks call snapshot lost. Unit {0})
+        (λ m call answer m2. Unit {0})) }
 {}

@@ -11,7 +11,7 @@ mod refusal;
 mod row;
 mod wrote;
 
-pub use laws::book_laws;
+pub use laws::{book_laws, safe_laws};
 pub use marks::Marks;
 pub use mode::{Isolation, Mode};
 pub use name::Name;

@@ -8,8 +8,12 @@ pub enum Outcome {
     Done,
     /// A write waits for that session.
     Waits { on: u16 },
-    /// A commit took this number.
+    /// A commit took this number, and is in the file.
     Committed { number: u64 },
+    /// A commit took this number, and waits to be made last.
+    Numbered { number: u64 },
+    /// All commits are in the file, up to that of this number.
+    Flushed { number: u64 },
     /// A fetch gave the next row.
     Row,
     /// A fetch gave none: all rows were given before.

@@ -4,10 +4,10 @@ use Rattle.std.specs.Prelude.{◌==◌, ◌&&◌, nat_le}
 use Rattle.std.specs.List.{list_all, AllByRecursion}
 use Rattle.std.proofs.lemmas.Bool.Decides.{nat_tests}
 use Rattle.std.proofs.lemmas.Fmt.{decimal_injective}
-use Rattle.rb_model.specs.Lines.{Field, Id, Key, Count, Named, Valued, Moded, IsField, field_text, fields_text, is_value, mode_text}
+use Rattle.rb_model.specs.Lines.{Field, Id, Key, Count, Named, Valued, Moded, Later, IsField, field_text, fields_text, is_value, mode_text}
 use Rattle.rb_model.specs.declared.mode.Mode.{Mode}
 use Rattle.rb_model.specs.declared.mode.Mode.TheVariants as mode
-use Rattle.rb_script.specs.Words.{is_word, FieldKind, IdKind, KeyKind, CountKind, NameKind, ValueKind, ModeKind, field_kind, NoFields}
+use Rattle.rb_script.specs.Words.{is_word, FieldKind, IdKind, KeyKind, CountKind, NameKind, ValueKind, ModeKind, LaterKind, field_kind, NoFields}
 use Rattle.rb_script.proofs.Spaced.{decimal_is_word, name_is_word, same_front, is_tail}
 
 -- the modes, numbered
@@ -42,6 +42,7 @@ number_in (Count n) = n
 number_in (Named name) = 0
 number_in (Valued value) = 0
 number_in (Moded mode) = number_of mode
+number_in Later = 0
 
 abbrev pub bytes_in : Field → List ℕ
 bytes_in (Id n) = []
@@ -50,6 +51,7 @@ bytes_in (Count n) = []
 bytes_in (Named name) = name
 bytes_in (Valued value) = value
 bytes_in (Moded mode) = []
+bytes_in Later = []
 
 -- the field of that kind that holds them
 abbrev pub field : FieldKind → ℕ → List ℕ → Field
@@ -59,6 +61,7 @@ field CountKind n bytes = Count n
 field NameKind n bytes = Named bytes
 field ValueKind n bytes = Valued bytes
 field ModeKind n bytes = Moded (mode_numbered n)
+field LaterKind n bytes = Later
 
 same_again : (f : Field) → field (field_kind f) (number_in f) (bytes_in f) ≡ f
 same_again (Id n) = refl
@@ -67,6 +70,7 @@ same_again (Count n) = refl
 same_again (Named name) = refl
 same_again (Valued value) = refl
 same_again (Moded mode) = ap Moded (same_numbered mode)
+same_again Later = refl
 
 value_byte_is_no_space : (b : ℕ) → (nat_le 33 b && nat_le b 126) ≡ true → not (b == 32) ≡ true
 value_byte_is_no_space b p = grind (arith, nat_tests)
@@ -92,6 +96,7 @@ field_is_word (Count n) valid = decimal_is_word n (omega arith)
 field_is_word (Named name) valid = name_is_word name valid
 field_is_word (Valued value) valid = value_is_word value valid
 field_is_word (Moded mode) valid = mode_is_word mode
+field_is_word Later valid = refl
 
 same_held : (k : FieldKind) (m n : ℕ) (a b : List ℕ) → IsField (field k m a) → IsField (field k n b)
     → field_text (field k m a) ≡ field_text (field k n b) → field k m a ≡ field k n b
@@ -101,6 +106,7 @@ same_held CountKind m n a b p q e = ap Count (decimal_injective m n (omega arith
 same_held NameKind m n a b p q e = ap Named e
 same_held ValueKind m n a b p q e = ap Valued e
 same_held ModeKind m n a b p q e = ap Moded (same_mode (mode_numbered m) (mode_numbered n) e)
+same_held LaterKind m n a b p q e = refl
 
 pub fields_tail : (fields : List Field) → is_tail (fields_text fields) ≡ true
 fields_tail [] = refl

@@ -5,16 +5,18 @@ use Rattle.rb_model.specs.Lines as lines
 use Rattle.rb_model.specs.Names.{name_text}
 use Rattle.rb_model.specs.Answers.{action_of}
 use Rattle.rb_script.specs.declared.command.Command.{Command}
-use Rattle.rb_script.specs.declared.command.Command.TheVariants.{Session, Marks, Checkpoint}
+use Rattle.rb_script.specs.declared.command.Command.TheVariants.{Session, Marks, Flush, Checkpoint}
 use Rattle.rb_script.specs.declared.command.Request.{Request}
-use Rattle.rb_script.specs.declared.command.Request.TheVariants.{Write, Lock, Commit, Rollback, Set, Savepoint}
-use Rattle.rb_script.specs.declared.command.Request.TheVariants.{RollbackTo, OpenCursor, Fetch, CloseCursor, Cancel}
+use Rattle.rb_script.specs.declared.command.Request.TheVariants.{Write, Lock, Commit, CommitLater, Rollback, Set}
+use Rattle.rb_script.specs.declared.command.Request.TheVariants.{Savepoint, RollbackTo, OpenCursor, Fetch}
+use Rattle.rb_script.specs.declared.command.Request.TheVariants.{CloseCursor, Cancel}
 
 -- the command by which a session asks for something
 abbrev pub asked_by : ℕ → Request → lines.Command
 asked_by s (Write t k op) = lines.WriteLine s t k (action_of op)
 asked_by s (Lock t k) = lines.WriteLine s t k calls.Lock
 asked_by s Commit = lines.CommitLine s
+asked_by s CommitLater = lines.CommitLaterLine s
 asked_by s Rollback = lines.RollbackLine s
 asked_by s (Set mode) = lines.SetLine s mode
 asked_by s (Savepoint name) = lines.SavepointLine s (name_text name)
@@ -28,4 +30,5 @@ asked_by s Cancel = lines.CancelLine s
 abbrev pub command_of : Command → lines.Command
 command_of (Session s request) = asked_by s request
 command_of Marks = lines.MarksLine
+command_of Flush = lines.FlushLine
 command_of Checkpoint = lines.CheckpointLine

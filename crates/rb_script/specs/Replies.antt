@@ -3,12 +3,15 @@ use Rattle.std.specs.Prelude.{ℕ, ◌≤◌, List, length, None, Some}
 use Rattle.rb_model.specs.Lines.{reply_text, bad_line_text}
 use Rattle.rb_model.specs.Calls as answers
 use Rattle.rb_script.specs.declared.reply.Reply.{Reply}
-use Rattle.rb_script.specs.declared.reply.Reply.TheVariants.{Done, Committed, Row, End, Waits, Refused, Marks, BadLine}
+use Rattle.rb_script.specs.declared.reply.Reply.TheVariants.{Done, Committed, Numbered, Flushed, Row, End}
+use Rattle.rb_script.specs.declared.reply.Reply.TheVariants.{Waits, Refused, Marks, BadLine}
 
 -- the line with its LF
 abbrev pub text_of_reply : Reply → List ℕ
 text_of_reply (Done s) = reply_text s answers.Done
-text_of_reply (Committed s number) = reply_text (Some s) (answers.Numbered number)
+text_of_reply (Committed s number) = reply_text (Some s) (answers.Committed number)
+text_of_reply (Numbered s number) = reply_text (Some s) (answers.Numbered number)
+text_of_reply (Flushed number) = reply_text None (answers.Flushed number)
 text_of_reply (Row s key value) = reply_text (Some s) (answers.Given key value.now)
 text_of_reply (End s) = reply_text (Some s) answers.End
 text_of_reply (Waits s on) = reply_text (Some s) (answers.Waits on)

@@ -1,7 +1,7 @@
 -- Words of a line, and the kinds of its fields.
 use Rattle.std.specs.Prelude.{◌≡◌, ◌≢◌, ℕ, Bool, true, false, not, ◌==◌, List, [], ◌∷◌, map}
 use Rattle.std.specs.List.{list_all, AllByRecursion}
-use Rattle.rb_model.specs.Lines.{Field, Id, Key, Count, Named, Valued, Moded, IsField, fields_text}
+use Rattle.rb_model.specs.Lines.{Field, Id, Key, Count, Named, Valued, Moded, Later, IsField, fields_text}
 use Rattle.rb_model.specs.Lines.{Word, InsertWord, UpdateWord, DeleteWord, LockWord}
 
 -- no byte is a space
@@ -24,6 +24,7 @@ pub data FieldKind : Type 0 where
   NameKind : FieldKind
   ValueKind : FieldKind
   ModeKind : FieldKind
+  LaterKind : FieldKind
 
 abbrev pub field_kind : Field → FieldKind
 field_kind (Id n) = IdKind
@@ -32,6 +33,7 @@ field_kind (Count n) = CountKind
 field_kind (Named name) = NameKind
 field_kind (Valued value) = ValueKind
 field_kind (Moded mode) = ModeKind
+field_kind Later = LaterKind
 
 -- the text is no fields of these kinds
 abbrev pub NoFields : List FieldKind → List ℕ → Type 0
@@ -59,3 +61,10 @@ name_fields s name = Id s ∷ Named name ∷ []
 
 abbrev pub name_kinds : List FieldKind
 name_kinds = IdKind ∷ NameKind ∷ []
+
+-- the fields of a commit that is made last later
+abbrev pub later_fields : ℕ → List Field
+later_fields s = Id s ∷ Later ∷ []
+
+abbrev pub later_kinds : List FieldKind
+later_kinds = IdKind ∷ LaterKind ∷ []

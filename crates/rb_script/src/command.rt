@@ -12,6 +12,8 @@ pub enum Command<'a> {
     Session { s: u16, request: Request<'a> },
     /// `marks`: what each rollback segment has made and given up.
     Marks,
+    /// `flush`.
+    Flush,
     /// `checkpoint`.
     Checkpoint,
 }
@@ -33,6 +35,8 @@ pub enum Request<'a> {
     },
     /// `commit S`.
     Commit,
+    /// `commit S later`: it is made last by a later call.
+    CommitLater,
     /// `rollback S`.
     Rollback,
     /// `set S MODE`, of `read-committed`, `read-only` and `serializable`.
@@ -76,7 +80,7 @@ impl Command<'_> {
     {
         match self {
             Command::Session { s, request: _ } => Some(*s),
-            Command::Marks | Command::Checkpoint => None,
+            Command::Marks | Command::Flush | Command::Checkpoint => None,
         }
     }
 }

@@ -4,12 +4,12 @@ ghost use Rattle.std.specs.List.{AllByRecursion};
 ghost use Rattle.rb_model.specs.Lines.{Spells, SpellsNone, IsField, Word, fields_text, word_text};
 ghost use Rattle.rb_model.specs.Names.{name_text};
 ghost use Rattle.rb_script.specs.Commands.{asked_by, command_of};
-ghost use Rattle.rb_script.specs.Words.{NoFields, is_word, key_fields, key_kinds, name_fields, name_kinds};
-ghost use Rattle.rb_script.specs.Words.{names_key, row_fields, row_kinds};
+ghost use Rattle.rb_script.specs.Words.{NoFields, is_word, key_fields, key_kinds, later_fields, later_kinds};
+ghost use Rattle.rb_script.specs.Words.{name_fields, name_kinds, names_key, row_fields, row_kinds};
 
 use crate::command::{Command, Request};
 use crate::words::{
-    count_of, id_and_rest, id_of, is_visible, key_and_rest, mode_of, name_and_rest, split,
+    count_of, id_and_rest, id_of, is_later, is_visible, key_and_rest, mode_of, name_and_rest, split,
 };
 use rb_base::parse_decimal;
 use rb_model::{Name, Op};
@@ -50,6 +50,19 @@ fn named_of(fields: &[u8]) -> Option<(u16, Name)>
     let (s, fields) = id_and_rest(fields)?;
     let name = Name::new(fields)?;
     Some((s, name))
+}
+
+// The session that these fields name in front of the word `later`
+fn later_of(fields: &[u8]) -> Option<u16>
+    ensures found { IfSome result (λ s. 32 ∷ fields.now ≡ fields_text (later_fields s)) }
+    ensures valid { IfSome result (λ s. AllByRecursion IsField (later_fields s)) }
+    ensures none { IfNone result (NoFields later_kinds (32 ∷ fields.now)) }
+{
+    let (s, word) = id_and_rest(fields)?;
+    if !is_later(word) {
+        return None;
+    }
+    Some(s)
 }
 
 // What the line asks for that is `insert`, a space and these fields
@@ -96,8 +109,11 @@ fn commit_of(fields: &[u8]) -> Option<(u16, Request<'_>)>
     ensures found { IfSome result (λ p. Spells (codes "commit" ++ 32 ∷ fields.now) (asked_by p.0 p.1)) }
     ensures none { IfNone result (SpellsNone (codes "commit" ++ 32 ∷ fields.now)) }
 {
-    let s = id_of(fields)?;
-    Some((s, Request::Commit))
+    if let Some(s) = id_of(fields) {
+        return Some((s, Request::Commit));
+    }
+    let s = later_of(fields)?;
+    Some((s, Request::CommitLater))
 }
 
 // What the line asks for that is `rollback`, a space and these fields
@@ -181,6 +197,9 @@ fn command_alone(word: &[u8]) -> Option<Command<'_>>
 {
     if word == b"marks".as_slice() {
         return Some(Command::Marks);
+    }
+    if word == b"flush".as_slice() {
+        return Some(Command::Flush);
     }
     if word == b"checkpoint".as_slice() {
         return Some(Command::Checkpoint);

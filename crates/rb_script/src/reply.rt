@@ -1,6 +1,6 @@
 //! The replies to the lines of a script. The shell makes one for each command, and writes its text.
-ghost use Rattle.std.specs.Prelude.{◌≡◌, [], ◌∷◌, ◌++◌, ◌+◌, ◌≤◌};
-ghost use Rattle.rb_model.specs.Calls.{refusal_text};
+ghost use Rattle.std.specs.Prelude.{◌≡◌, [], ◌∷◌, ◌++◌, ◌+◌, ◌≤◌, length};
+ghost use Rattle.rb_model.specs.Calls.{number_text, refusal_text};
 ghost use Rattle.rb_model.specs.Lines.{caller_text};
 ghost use Rattle.arrayvec.specs.ArrayVec.{array_vec_len};
 ghost use Rattle.rb_script.specs.Replies.{text_of_reply, FitsALine};
@@ -16,6 +16,10 @@ pub enum Reply<'a> {
     Done { s: Option<u16> },
     /// `S committed NUMBER`.
     Committed { s: u16, number: u64 },
+    /// `S numbered NUMBER`.
+    Numbered { s: u16, number: u64 },
+    /// `flushed NUMBER`.
+    Flushed { number: u64 },
     /// `S row KEY VALUE`.
     Row { s: u16, key: u64, value: &'a [u8] },
     /// `S end`.
@@ -40,6 +44,18 @@ fn put_caller(s: Option<u16>, into: &mut Line)
         put_number(u64::from(s), into);
         put(b" ", into);
     }
+}
+
+// Puts a word that tells a commit's number, to a session or to none
+fn put_numbered(s: Option<u16>, word: &[u8], number: u64, into: &mut Line)
+    requires empty { into.old.items ≡ [] }
+    requires short { length word.now ≤ 9 }
+    ensures items { into.new.items ≡ caller_text s ++ (word.now ++ number_text number) }
+    ensures room { array_vec_len into.new ≤ 511 }
+{
+    put_caller(s, into);
+    put(word, into);
+    put_part(number, into);
 }
 
 // Appends the text of a refusal
@@ -79,11 +95,9 @@ fn put_reply(reply: &Reply<'_>, into: &mut Line)
             put_caller(s, into);
             put(b"ok", into);
         }
-        Reply::Committed { s, number } => {
-            put_caller(Some(s), into);
-            put(b"committed", into);
-            put_part(number, into);
-        }
+        Reply::Committed { s, number } => put_numbered(Some(s), b"committed", number, into),
+        Reply::Numbered { s, number } => put_numbered(Some(s), b"numbered", number, into),
+        Reply::Flushed { number } => put_numbered(None, b"flushed", number, into),
         Reply::Row { s, key, value } => {
             put_caller(Some(s), into);
             put(b"row", into);

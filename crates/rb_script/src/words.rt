@@ -1,6 +1,6 @@
 //! The words of a line, from the left. The readers of the commands call it.
 ghost use Rattle.std.specs.Prelude.{ℕ, List, ◌≡◌, ◌≢◌, ◌∷◌, ◌++◌, ◌<◌, ◌≤◌, ◌^◌};
-ghost use Rattle.std.specs.Prelude.{IsTrue, IfSome, IfNone, ◌&&◌, nat_le, ◌↔◌};
+ghost use Rattle.std.specs.Prelude.{IsTrue, IfSome, IfNone, ◌&&◌, nat_le, ◌↔◌, codes, true};
 ghost use Rattle.std.specs.List.{list_all};
 ghost use Rattle.std.specs.Fmt.{decimal};
 ghost use Rattle.rb_model.specs.NameTest.{is_name};
@@ -86,6 +86,13 @@ pub fn name_and_rest(text: &[u8]) -> Option<(Name, &[u8])>
     let (front, rest) = split(text)?;
     let name = Name::new(front)?;
     Some((name, rest))
+}
+
+/// Whether the word is `later`, with which a commit is made last by a later call.
+pub fn is_later(word: &[u8]) -> bool
+    ensures { result ≡ true ↔ word.now ≡ codes "later" }
+{
+    word == b"later".as_slice()
 }
 
 /// The mode that the word names.

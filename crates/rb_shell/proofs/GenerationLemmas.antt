@@ -18,7 +18,7 @@ use Rattle.rb_base.specs.declared.faults.OpenFault.{OpenFault}
 use Rattle.rb_base.specs.declared.faults.OpenFault.TheVariants as faults
 use Rattle.rb_shell.specs.Generation.{HasMade, MadeOn, line_of}
 use Rattle.rb_shell.specs.Statuses.{EndsGenerator, TellsCounts}
-use Rattle.rb_shell.specs.Runs.{HasOpened, IsSound, MadeLast, first_of}
+use Rattle.rb_shell.specs.Runs.{HasOpened, IsSound, IsWhole, MadeLast, first_of}
 use Rattle.rb_shell.specs.Statuses.{IsDoneOrNoMemory}
 use Rattle.rb_shell.specs.declared.status.Status.{Status}
 use Rattle.rb_shell.specs.declared.status.Status.TheVariants.{Done, Usage, SourceFault, DiskFault, SinkFault, NotAStore, NoMemory, NotEmpty, TooLong}
@@ -64,7 +64,7 @@ module _ {S : Type 0} (s : Ghosts S) (m : Logged) (n : ℕ) (old mid : EngineVie
     made = record { answers = d.ran.answers; now = d.now; answered = d.ran.answered; stops = d.ran.ends.1 };
     crash = λ kept. survives_on s (s.slots old.store) m.state d.now.state d.now.state old.store mid.store new d.ran.ends.1 (d.passed.crash kept)
         (subst (λ (k : Option ℕ). Survives s k d.now.fault d.now.state d.now.state mid.store new) d.passed.same.slots (made.crash d.now.fault kept));
-    last = λ kept other i here. subst (λ (k : Option ℕ). s.opens d.now.state.shape k i d.now.blocks d.now.lsn) d.passed.same.slots (made.last kept (fine other) i here);
+    last = λ kept other i here. subst (λ (k : Option ℕ). IsWhole s.opens k d.now i) d.passed.same.slots (made.last kept (fine other) i here);
     all = λ other. refl;
     told = told;
     cut = cut;

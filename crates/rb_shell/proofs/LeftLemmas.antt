@@ -7,8 +7,8 @@ use Rattle.rb_base.specs.declared.shape.Shape.{Shape}
 use Rattle.rb_disk.specs.Moments.{Leaves}
 use Rattle.rb_disk.specs.declared.disk.Disk.{Ghosts as DiskGhosts}
 use Rattle.law_crash.proofs.Crashes.{extends_later, extends_same, grow_same}
-use Rattle.law_crash.specs.Between.{Extends, FoundAtEnd, FoundBetween, MarksGrow, at_end, one_commit, one_write, reached, whole, with_commit}
-use Rattle.law_crash.specs.Crash.{AtEnd, OnTheWay, RestartsAt}
+use Rattle.law_crash.specs.Between.{Extends, FoundAtEnd, FoundBetween, FoundSome, MarksGrow, at_end, one_commit, one_write, reached, up_to, with_commit}
+use Rattle.law_crash.specs.Crash.{AtEnd, OnTheWay, Restarts, RestartsAt}
 use Rattle.rb_layout.specs.Regions.{shape_of}
 use Rattle.rb_layout.specs.declared.layout.Layout.{Layout}
 use Rattle.rb_lines.specs.Cut.{CutOff}
@@ -18,7 +18,7 @@ use Rattle.rb_model.specs.Calls.{Call}
 use Rattle.rb_model.specs.Change.{Change}
 use Rattle.rb_model.specs.Out.{Logged}
 use Rattle.rb_model.specs.Rows.{last_scn, rows_at}
-use Rattle.rb_model.specs.State.{State, opened, session_own}
+use Rattle.rb_model.specs.State.{State, all_safe, opened, session_own}
 use Rattle.rb_recovery.proofs.Sound.{sound_as}
 use Rattle.rb_recovery.specs.Opens.{books_of}
 use Rattle.rb_restart.specs.Rollback.{found_book}
@@ -28,8 +28,8 @@ use Rattle.rb_shell.proofs.Forgets.{cut_plain, ran_plain}
 use Rattle.rb_shell.proofs.NewFile.{new_file, new_log}
 use Rattle.rb_shell.proofs.Restarting.{head_small}
 use Rattle.rb_shell.specs.Left.{Left, fresh, later}
-use Rattle.rb_shell.specs.Over.{HasRows, IsCutOver, LeavesFiles, LeavesSame, LeavesSome, RunsOver, plain}
-use Rattle.rb_shell.specs.Runs.{Endures, FirstBlocks, IsSound, LeftBehind, OpensSame, first_of}
+use Rattle.rb_shell.specs.Over.{HasRows, IsCutOver, LeavesFiles, LeavesSame, LeavesSome, RunsOver, RunsToEnd, plain}
+use Rattle.rb_shell.specs.Runs.{Endures, FirstBlocks, IsSound, Lasts, LeftBehind, OpensSame, first_of}
 use Rattle.rb_shell.specs.declared.script.TheConstants.{SCRIPT_BYTES}
 use Rattle.law_blocks.specs.Standing.{SoundAs, logged_of}
 use Rattle.rb_calls.specs.Since.{engine_outside}
@@ -92,6 +92,10 @@ marks_found slots n books h file r = record {
     at : (g : ℕ) → g < h.shape.segments → book_at (books_of h.shape r.blocks) g ≡ found_book (segment_of h.shape r.blocks g).header
     at g there = get_or-map-range_with_len (λ (k : ℕ). found_book (segment_of h.shape r.blocks k).header) 0 h.shape.segments g g fresh_book there (omega arith)
 
+all_low : (slots : ℕ) (file : List ℕ) (h : State) → Left slots file h → h.safe ≡ last_scn h.commits
+all_low slots _ _ (fresh l log file new h opens) = subst (λ (x : State). x.safe ≡ last_scn x.commits) (sym opens) (omega arith)
+all_low slots _ _ (later before first was now extends books n low file r h opens) = subst (λ (x : State). x.safe ≡ last_scn x.commits) (sym opens) (omega arith)
+
 module _ (slots : ℕ) (before : List ℕ) (h : State) (is : Left slots before h) where
   has_rows : (now : State) → Extends h now → (books : List Book) (n : ℕ) → last_scn h.commits ≤ n → (file : List ℕ) → RestartsAt Opens (Some slots) books now n file → HasRows slots books now n file
   has_rows now extends books n low file r = record {
@@ -99,6 +103,10 @@ module _ (slots : ℕ) (before : List ℕ) (h : State) (is : Left slots before h
     marks = marks_found slots n books now file r;
     left = later before h is now extends books n low file r _ refl;
   }
+
+  -- all commits of the state that such a file opens to are acknowledged
+  low : h.safe ≡ last_scn h.commits
+  low = all_low slots before h is
 
   -- with a commit more
   more : (now : State) (s : ℕ) → Extends h now → Extends h (with_commit now s)
@@ -109,17 +117,26 @@ module _ (slots : ℕ) (before : List ℕ) (h : State) (is : Left slots before h
     more = e.more ++ session_own now s ∷ [];
     list = ap (λ (l : List (List Change)). l ++ session_own now s ∷ []) e.list ∙ append_assoc h.commits.list e.more (session_own now s ∷ []);
     marks = e.marks;
+    safe = e.safe;
+  }
+
+  some_rows : (books : List Book) (now : State) → Extends h now → (file : List ℕ) → FoundSome (RestartsAt Opens (Some slots)) books now file → FoundSome (HasRows slots) books now file
+  some_rows books now e file r = record {
+    number = r.number;
+    acknowledged = r.acknowledged;
+    made = r.made;
+    found = has_rows now e books r.number (let from = r.acknowledged in let grown = e.safe in let same = low in omega (arith, from, grown, same)) file r.found;
   }
 
   ends : (fault : Option Call) (now : State) → Extends h now → (file : List ℕ) → AtEnd Opens (Some slots) fault now file → FoundAtEnd (HasRows slots) fault now file
-  ends fault now e file (whole r) = whole (has_rows now e now.books (last_scn now.commits) (extends_later h now e) file r)
-  ends fault now e file (one_commit s by stopped some r) =
-      one_commit s by stopped some (has_rows (with_commit now s) (more now s e) now.books (last_scn now.commits + 1) (let le = extends_later h now e in omega (arith, le)) file r)
+  ends fault now e file (up_to r) = up_to (some_rows now.books now e file r)
+  ends fault now e file (one_commit s by stopped own r) =
+      one_commit s by stopped own (has_rows (with_commit now s) (more now s e) now.books (last_scn now.commits + 1) (let le = extends_later h now e in omega (arith, le)) file r)
   ends fault now e file (one_write s table key action g k by stopped within r) =
-      one_write s table key action g k by stopped within (has_rows now e _ (last_scn now.commits) (extends_later h now e) file r)
+      one_write s table key action g k by stopped within (some_rows _ now e file r)
 
   between : (fault : Option Call) (now : State) → Extends h now → (file : List ℕ) → OnTheWay Opens (Some slots) fault h now file → FoundBetween (HasRows slots) fault h now file
-  between fault now e file (reached n low high r) = reached n low high (has_rows now e now.books n low file r)
+  between fault now e file (reached n from high r) = reached n from high (has_rows now e now.books n (let same = low in omega (arith, from, same)) file r)
   between fault now e file (at_end r) = at_end (ends fault now e file r)
 
   module _ {D : Type 0} (d : DiskGhosts D) (old new : D) where
@@ -141,12 +158,15 @@ module _ (slots : ℕ) (before : List ℕ) (h : State) (is : Left slots before h
     -- an opening that was stopped
     pub leaves_same : (w : OpensWith slots (d.content old) h) → OpensSame d old new w.sound → LeavesSame d old new slots h
     leaves_same w same =
-        let P : List ℕ → Type 0 = λ c. d.image old c ⊎ RestartsAt Opens (Some slots) h.books h (last_scn h.commits) c in
-        let moved : Leaves d old new P = subst (λ (z : State). Leaves d old new (λ c. d.image old c ⊎ RestartsAt Opens (Some slots) z.books z (last_scn z.commits) c)) w.state
-        (subst (λ (k : ℕ). Leaves d old new (λ c. d.image old c ⊎ RestartsAt Opens (Some k) w.sound.state.books w.sound.state (last_scn w.sound.state.commits) c)) w.log same) in
-        let itself = extends_same h h refl refl (grow_same h.shape h.books) in
+        let P : List ℕ → Type 0 = λ c. d.image old c ⊎ Restarts Opens (Some slots) h c in
+        let moved : Leaves d old new P = subst (λ (z : State). Leaves d old new (λ c. d.image old c ⊎ Restarts Opens (Some slots) z c)) w.state
+        (subst (λ (k : ℕ). Leaves d old new (λ c. d.image old c ⊎ Restarts Opens (Some k) w.sound.state c)) w.log same) in
+        let itself = extends_same h h refl refl (grow_same h.shape h.books) (omega arith) in
+        let last : (c : List ℕ) → Restarts Opens (Some slots) h c → HasRows slots h.books h (last_scn h.commits) c = λ c r.
+        let at : r.number ≡ last_scn h.commits = (let from = r.acknowledged in let to = r.made in let same = low in omega (arith, from, to, same)) in
+        has_rows h itself h.books (last_scn h.commits) (omega arith) c (subst (λ (n : ℕ). RestartsAt Opens (Some slots) h.books h n c) at r.found) in
         weaker d.moment d.image_since old new P (λ c. d.image old c ⊎ HasRows slots h.books h (last_scn h.commits) c)
-        (λ c p. ⊎_elim (λ was. inl was) (λ r. inr (has_rows h itself h.books (last_scn h.commits) (omega arith) c r)) p) moved
+        (λ c p. ⊎_elim (λ was. inl was) (λ r. inr (last c r)) p) moved
 
     -- lines that were done over it
     pub runs_over : (w : OpensWith slots (d.content old) h) (first : FirstBlocks w.sound) (lines : List (List ℕ)) (tells : Type 0) (held_before held_now : List ℕ) (now : Logged)
@@ -161,6 +181,27 @@ module _ (slots : ℕ) (before : List ℕ) (h : State) (is : Left slots before h
           ran = subst (λ (z : State). Ran plain (record { state = z; lsn = first.lsn; fault = None; blocks = first.blocks }) now lines tells held_before held_now) w.state
               (ran_plain engine_outside first now lines tells held_before held_now ran);
           leaves = leaves_by now w.sound.store.layout w.sound.state w.state w.log e;
+        }
+
+    -- to the end of the script
+    pub runs_to_end : (w : OpensWith slots (d.content old) h) (first : FirstBlocks w.sound) (lines : List (List ℕ)) (tells : Type 0) (held_before held_now : List ℕ) (now : Logged)
+        → Ran engine_outside (first_of w.sound first) now lines tells held_before held_now → Lasts d old new w.sound.store.layout w.sound.state now
+        → RunsToEnd d old new slots h lines tells held_before held_now
+    unfolding runs_over
+    runs_to_end w blocks lines tells held_before held_now now ran e =
+        let before = subst (λ (z : State). Extends z now.state) w.state e.endured.extends in
+        let extends : Extends h (all_safe now.state) = record {
+          shape = before.shape;
+          base = before.base;
+          rows = before.rows;
+          more = before.more;
+          list = before.list;
+          marks = before.marks;
+          safe = let later = extends_later h now.state before in let same = low in omega (arith, later, same);
+        } in record {
+          over = runs_over w blocks lines tells held_before held_now now ran e.endured;
+          all = λ c here. some_rows now.state.books (all_safe now.state) extends c
+              (subst (λ (k : ℕ). Restarts Opens (Some k) (all_safe now.state) c) w.log (e.last c here).commits);
         }
 
     pub is_cut_over : (w : OpensWith slots (d.content old) h) (first : FirstBlocks w.sound) (left left2 held_before held_now : List ℕ) (now : Logged)

@@ -48,8 +48,13 @@ module _ (shape : Shape) (blocks : List (List ℕ)) (number : ℕ) (rows : List 
 pub restarts_found : (h : State) (l : Layout) (blocks : List (List ℕ)) (lsn : ℕ) (file : List ℕ) → OpensAs (shape_of l) blocks h → lsn ≡ logged_of (shape_of l) blocks
     → OpensAt l file blocks lsn → Restarts Opens (Some l.log) h file
 restarts_found h l blocks lsn file opening logged opens = subst (λ (x : State). Restarts Opens (Some l.log) x file) (sym opening.state) (record {
-  blocks = blocks;
-  lsn = lsn;
-  opening = record { layout = l; shape_is = refl; slots_are = refl; opens = opens };
-  has = first_has (shape_of l) blocks opening.number opening.rows lsn opening.sound logged;
+  number = last_scn (First (shape_of l) blocks opening.number opening.rows).commits;
+  acknowledged = omega arith;
+  made = omega arith;
+  found = record {
+    blocks = blocks;
+    lsn = lsn;
+    opening = record { layout = l; shape_is = refl; slots_are = refl; opens = opens };
+    has = first_has (shape_of l) blocks opening.number opening.rows lsn opening.sound logged;
+  };
 })

@@ -20,7 +20,6 @@ use Rattle.rb_lines.proofs.Runs.{ran-append}
 use Rattle.rb_model.specs.Calls.{Call}
 use Rattle.rb_model.specs.Lines.{lines_of}
 use Rattle.rb_model.specs.Out.{Logged, Outside}
-use Rattle.rb_model.specs.Rows.{last_scn}
 use Rattle.rb_model.specs.State.{State}
 use Rattle.rb_recovery.specs.Opens.{OpensAs}
 use Rattle.rb_restart.specs.Rollback.{BackBy}
@@ -49,7 +48,7 @@ all_ran outside most m now left left2 tells before held halted =
 
 -- an image that has a state is on the way to a later one
 restarts_on_the_way : (slots : Option ℕ) (fault : Option Call) (h h2 : State) (c : List ℕ) → Extends h h2 → Restarts Opens slots h c → OnTheWay Opens slots fault h h2 c
-restarts_on_the_way slots fault h h2 c e r = reached (last_scn h.commits) (omega arith) (extends_later h h2 e) (restarts_later Opens slots h h2 h.books h2.books (last_scn h.commits) c e (omega arith) e.marks r)
+restarts_on_the_way slots fault h h2 c e r = reached r.number r.acknowledged (let later = extends_later h h2 e in let made = r.made in omega (arith, made, later)) (restarts_later Opens slots h h2 h.books h2.books r.number c e r.made e.marks r.found)
 
 -- the shape of a layout is in range
 pub in_range : (l : Layout) → IsShape (shape_of l)

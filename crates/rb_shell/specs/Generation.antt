@@ -13,7 +13,7 @@ use Rattle.rb_model.specs.Calls.{Answer}
 use Rattle.rb_model.specs.Out.{Logged, Outside}
 use Rattle.rb_model.specs.Rows.{last_scn}
 use Rattle.rb_model.specs.State.{State}
-use Rattle.rb_shell.specs.Runs.{FirstBlocks, IsSound, first_of}
+use Rattle.rb_shell.specs.Runs.{FirstBlocks, IsSound, IsWhole, first_of}
 use Rattle.rb_shell.specs.declared.status.Status.{Status}
 use Rattle.rb_shell.specs.declared.status.Status.TheVariants.{Done, DiskFault, SinkFault}
 
@@ -56,7 +56,7 @@ pub record MadeOn {S : Type 0} (s : Ghosts S) (old new : S) (outside : Outside) 
   pub made : HasMade outside before n fault
   pub crash : s.keeps → Survives s (s.slots old) made.now.fault before.state made.now.state old new
   pub last : s.keeps → status ≢ DiskFault → (i : s.image) → s.left new i
-      → s.opens made.now.state.shape (s.slots old) i made.now.blocks made.now.lsn
+      → IsWhole s.opens (s.slots old) made.now i
   pub all : status ≢ DiskFault → fault ≡ false
   pub told : status ≡ Done → tells → held_now ≡ held_before ++ line_of n made.answers made.now
   pub cut : status ≡ SinkFault → tells → (size : ℕ)

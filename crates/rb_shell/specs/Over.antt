@@ -2,13 +2,13 @@
 use Rattle.std.specs.Prelude.{◌⊎◌, ℕ, List, None}
 use Rattle.rb_disk.specs.Moments.{Leaves}
 use Rattle.rb_disk.specs.declared.disk.Disk.{Ghosts as DiskGhosts}
-use Rattle.law_crash.specs.Between.{FoundAtEnd, FoundBetween, MarksGrow}
+use Rattle.law_crash.specs.Between.{FoundAtEnd, FoundBetween, FoundSome, MarksGrow}
 use Rattle.rb_lines.specs.Cut.{CutOff}
 use Rattle.rb_lines.specs.Ran.{Ran}
 use Rattle.rb_model.specs.Book.{Book}
 use Rattle.rb_model.specs.Out.{Logged, Outside, outside_by}
 use Rattle.rb_model.specs.Rows.{last_scn, rows_at}
-use Rattle.rb_model.specs.State.{State, opened}
+use Rattle.rb_model.specs.State.{State, all_safe, opened}
 use Rattle.rb_shell.specs.Left.{Left}
 use Rattle.rb_shell.specs.declared.script.TheConstants.{SCRIPT_BYTES}
 
@@ -19,7 +19,8 @@ pub record HasRows (slots : ℕ) (books : List Book) (h : State) (n : ℕ) (file
   pub left : Left slots file (opened h.shape n (rows_at h.shape.blocks h.commits n) found)
 
 -- The files that are left at each moment of a run: those that the disk had at its start, or some with a number from
--- that of the state it opened with on; and at its end the files with all commits.
+-- that of the state it opened with on; and at its end files with each commit that is acknowledged, and of the later
+-- ones the first.
 pub record LeavesFiles {D : Type 0} (d : DiskGhosts D) (old new : D) (slots : ℕ) (before : State) (now : Logged)
     : Type 0 where
   pub any_moment : Leaves d old new
@@ -42,6 +43,13 @@ pub record RunsOver {D : Type 0} (d : DiskGhosts D) (old new : D) (slots : ℕ) 
   pub ran : Ran plain (record { state = h; lsn = lsn; fault = None; blocks = blocks }) now lines tells held_before
       held_now
   pub leaves : LeavesFiles d old new slots h now
+
+-- It did them to the end of the script, where all that waits is made last: the files have all commits.
+pub record RunsToEnd {D : Type 0} (d : DiskGhosts D) (old new : D) (slots : ℕ) (h : State) (lines : List (List ℕ))
+    (tells : Type 0) (held_before held_now : List ℕ) : Type 0 where
+  pub over : RunsOver d old new slots h lines tells held_before held_now
+  pub all : (c : List ℕ) → d.image new c
+      → FoundSome (HasRows slots) over.now.state.books (all_safe over.now.state) c
 
 -- It was cut off in one of its lines: the sink holds all replies of those before it, and a front of its own. Nothing
 -- was done after that, and the script was asked for in pieces of at most 65,536 bytes.

@@ -1,6 +1,7 @@
 -- What a run of a script over a file does.
 use Rattle.std.specs.Prelude.{◌≡◌, ◌≤◌, ◌⊎◌, ℕ, ◌+◌, ◌^◌, false, List, []}
 use Rattle.std.specs.Prelude.{◌++◌, Option, None, Some}
+use Rattle.rb_base.specs.declared.shape.Shape.{Shape}
 use Rattle.rb_base.specs.declared.store.Store.{Ghosts}
 use Rattle.rb_disk.specs.Moments.{Leaves, Rests}
 use Rattle.rb_disk.specs.declared.disk.Disk.{Ghosts as DiskGhosts}
@@ -17,7 +18,7 @@ use Rattle.rb_lines.specs.declared.lines.LinesEnd.TheVariants as ends
 use Rattle.rb_model.specs.Calls.{Call}
 use Rattle.rb_model.specs.Lines.{lines_of}
 use Rattle.rb_model.specs.Out.{Logged, Outside}
-use Rattle.rb_model.specs.State.{State}
+use Rattle.rb_model.specs.State.{State, all_safe}
 use Rattle.rb_recovery.specs.Opens.{OpensAs}
 use Rattle.rb_restart.specs.Rollback.{BackBy}
 use Rattle.rb_segment.specs.Segments.{owed_in}
@@ -108,7 +109,7 @@ pub record HasHalted {file : List ℕ} (sound : IsSound file) (left_before left_
   pub halted : Halted engine_outside SCRIPT_BYTES (first_of sound first) run.now left_before left_now tells before now
 
 -- All lines were done, and then the disk failed as what waited was made last. No reply tells of it, as nothing is lost
--- but what isn't committed.
+-- that is acknowledged.
 pub record HasRunOut {file : List ℕ} (sound : IsSound file) (left_before left_now : List ℕ) (tells : Type 0)
     (before now : List ℕ) (endures : Layout → State → Logged → Type 0) : Type 0 where
   pub run : HasRun sound (lines_of left_before) tells before now endures
@@ -116,7 +117,7 @@ pub record HasRunOut {file : List ℕ} (sound : IsSound file) (left_before left_
 
 -- What a crash may leave over a run, which opens the file first and comes to a state with the commits of the one opened
 -- and perhaps more: at any moment since its start an image that the disk had at the start, or a file on the way from
--- the state opened; and at its end all commits of the state.
+-- the state opened; and at its end each commit of the state that is acknowledged, and of the later ones the first.
 pub record Endures {D : Type 0} (d : DiskGhosts D) (old new : D) (l : Layout) (before : State) (now : Logged) : Type 0
   where
     pub extends : Extends before now.state
@@ -130,12 +131,19 @@ pub record EnduresCounted {D : Type 0} (d : DiskGhosts D) (old new : D) (l : Lay
   pub endured : Endures d old new l before now
   pub still : now.state.stopped ≡ false → d.faults new ≡ d.faults old
 
+-- An image has all that the machine did, to the last group: it opens to the machine's blocks and its log number, and
+-- so with all its commits.
+pub record IsWhole {I : Type 0} (opens : Shape → Option ℕ → I → List (List ℕ) → ℕ → Type 0)
+    (slots : Option ℕ) (m : Logged) (i : I) : Type 0 where
+  pub opening : opens m.state.shape slots i m.blocks m.lsn
+  pub commits : Restarts opens slots (all_safe m.state) i
+
 -- As `Endures`, and at its end a crash leaves what was done to the last group, also what isn't committed, as nothing
--- waits: each file opens to the blocks of the state, and to its log number.
+-- waits.
 pub record Lasts {D : Type 0} (d : DiskGhosts D) (old new : D) (l : Layout) (before : State) (now : Logged) : Type 0
   where
     pub endured : Endures d old new l before now
-    pub last : (c : List ℕ) → d.image new c → Opens now.state.shape (Some l.log) c now.blocks now.lsn
+    pub last : (c : List ℕ) → d.image new c → IsWhole Opens (Some l.log) now c
 
 -- At any moment since the start of an opening a crash leaves an image that the disk had at the start, or one that
 -- restarts to the state to which the file opens.
@@ -170,8 +178,7 @@ pub data EndsBy (end : LinesEnd) (status : Status) : Type 0 where
 -- the status says that all is well, all of it to the last group, in the blocks of that state.
 pub record MadeLast {S : Type 0} (s : Ghosts S) (old new : S) (m : Logged) (status : Status) : Type 0 where
   pub crash : (fault : Option Call) → s.keeps → Survives s (s.slots old) fault m.state m.state old new
-  pub last : s.keeps → status ≡ Done → (i : s.image) → s.left new i
-      → s.opens m.state.shape (s.slots old) i m.blocks m.lsn
+  pub last : s.keeps → status ≡ Done → (i : s.image) → s.left new i → IsWhole s.opens (s.slots old) m i
 
 -- Some lines were done over a store: a crash leaves no more than the states before and after them.
 pub record PassedOn {S : Type 0} (s : Ghosts S) (old new : S) (before : Logged) : Type 0 where
@@ -185,8 +192,7 @@ pub record RanOn {S : Type 0} (s : Ghosts S) (old new : S) (outside : Outside) (
   where
     pub now : Logged
     pub crash : s.keeps → Survives s (s.slots old) now.fault before.state now.state old new
-    pub last : s.keeps → status ≡ Done → (i : s.image) → s.left new i
-        → s.opens now.state.shape (s.slots old) i now.blocks now.lsn
+    pub last : s.keeps → status ≡ Done → (i : s.image) → s.left new i → IsWhole s.opens (s.slots old) now i
     pub still : status ≡ SinkFault → now.state.stopped ≡ false → s.faults new ≡ s.faults old
     pub end : LinesEnd
     pub is : EndsBy end status

@@ -22,6 +22,8 @@ IsSkipped line = (length line ≤ 512) × (is_remark (without_return line) ≡ t
 abbrev pub tells_fault : Reply → Bool
 tells_fault (replies.Done s) = false
 tells_fault (replies.Committed s number) = false
+tells_fault (replies.Numbered s number) = false
+tells_fault (replies.Flushed number) = false
 tells_fault (replies.Row s key value) = false
 tells_fault (replies.End s) = false
 tells_fault (replies.Waits s on) = false

@@ -20,7 +20,7 @@ ghost use Rattle.rb_model.specs.State.{State, opened};
 ghost use Rattle.rb_layout.specs.Regions.{shape_of};
 ghost use Rattle.rb_shell.specs.Left.{Left};
 ghost use Rattle.rb_shell.specs.NewBooks.{new_books};
-ghost use Rattle.rb_shell.specs.Over.{IsCutOver, LeavesSame, LeavesSome, RunsOver};
+ghost use Rattle.rb_shell.specs.Over.{IsCutOver, LeavesSame, LeavesSome, RunsOver, RunsToEnd};
 ghost use Rattle.rb_words.specs.Words.{AsksFormat, AsksGen, AsksRun, IsUsage};
 
 use crate::generation::run_generator;
@@ -139,7 +139,7 @@ pub fn run<S: Source, K: Sink, D: Disk>(
         → Left l.log file (opened (shape_of l) 0 [] (new_books (shape_of l))) }
     ensures left { D.tells → S.tells → (n : ℕ) → AsksRun words.now n → result.0 ≡ Status.Done
         → (slots : ℕ) (h : State) → Left slots (D.content disk) h
-        → RunsOver D.Disk disk result.1 slots h (lines_of (S.left source.old)) K.tells (K.held sink.old)
+        → RunsToEnd D.Disk disk result.1 slots h (lines_of (S.left source.old)) K.tells (K.held sink.old)
         (K.held sink.new) }
     ensures left_source { D.tells → S.tells → result.0 ≡ Status.SourceFault
         → (slots : ℕ) (h : State) → Left slots (D.content disk) h

@@ -63,6 +63,8 @@ pub fn reply_of(s: Option<u16>, answer: Outcome, row: &Row) -> Reply<'_>
         (Outcome::Marked { seg, writes, lost }, None) => Reply::Marks { seg, writes, lost },
         (Outcome::Waits { on }, Some(s)) => Reply::Waits { s, on },
         (Outcome::Committed { number }, Some(s)) => Reply::Committed { s, number },
+        (Outcome::Numbered { number }, Some(s)) => Reply::Numbered { s, number },
+        (Outcome::Flushed { number }, None) => Reply::Flushed { number },
         (Outcome::Row, Some(s)) => Reply::Row {
             s,
             key: row.key,

@@ -88,7 +88,7 @@ pub fn status_of_fault(fault: OpenFault) -> Status
 }
 
 /// Makes last what waits at the end of the script, so that the next opening finds it and puts it back. No reply tells
-/// of it: each commit was made last before its number was answered.
+/// of it: what is acknowledged was made last before.
 pub fn make_last<T: Store>(engine: &mut Engine<T>) -> Status
     ensures is { EndsBy LinesEnd.Done result }
     ensures lasts { (m : Logged) → StandsAs T.Store engine.old m → m.state.stopped ≡ false

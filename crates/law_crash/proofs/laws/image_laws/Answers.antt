@@ -12,6 +12,7 @@ returns c = record {
   later = λ h h2 n blocks lsn e le has. has_later h h2 h.books h2.books n blocks lsn e.shape (rows_stay h.shape.blocks h h2 n e le) e.marks has;
   commits = λ h h2 e. (
     extends_later h h2 e,
+    e.safe,
     λ n le. ap (λ (x : Shape). rows_at x.blocks h2.commits n) e.shape ∙ rows_stay h.shape.blocks h h2 n e le,
     λ g lt. (e.marks.writes g lt, e.marks.lost g lt),
   );

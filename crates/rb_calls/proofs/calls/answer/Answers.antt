@@ -14,6 +14,10 @@ returns-in-Session-clause-made g c = subst (λ (command : Command). Made g.T.Sto
 pub returns-in-Marks-clause-made : goal.returns-in-Marks-clause-made
 returns-in-Marks-clause-made g c = subst (λ (command : Command). Made g.T.Store (call_of (command_of command) c.args.k) (answer_of c.answer_of_segment.result c.args.row.now) c.args.engine.now c.answer_of_segment.new.engine) (sym c.in-Marks.is) (c.answer_of_segment.ensures.made c.args.row.now)
 
+pub returns-in-Flush-clause-made : goal.returns-in-Flush-clause-made
+returns-in-Flush-clause-made g c = subst (λ (command : Command). Made g.T.Store (call_of (command_of command) c.args.k) (answer_of c.answer_to_flush.result c.args.row.now) c.args.engine.now c.flush.new.self) (sym c.in-Flush.is)
+    (made_by g.T.Store _ c.args.engine.now c.flush.new.self _ _ _ (c.answer_to_flush.ensures.answer c.args.row.now) (c.answer_to_flush.ensures.fault c.args.row.now) c.flush.ensures.did c.flush.ensures.makes (λ h st scn lost is. tt) c.flush.ensures.same c.flush.ensures.disk)
+
 pub returns-in-Checkpoint-clause-made : goal.returns-in-Checkpoint-clause-made
 returns-in-Checkpoint-clause-made g c = subst (λ (command : Command). Made g.T.Store (call_of (command_of command) c.args.k) (answer_of c.answer_to_call.result c.args.row.now) c.args.engine.now c.checkpoint.new.self) (sym c.in-Checkpoint.is)
     (made_by g.T.Store _ c.args.engine.now c.checkpoint.new.self _ _ _ (c.answer_to_call.ensures.answer c.args.row.now) (c.answer_to_call.ensures.fault c.args.row.now) c.checkpoint.ensures.did c.checkpoint.ensures.makes (λ h st scn lost is. tt) c.checkpoint.ensures.same c.checkpoint.ensures.disk)
@@ -27,3 +31,6 @@ returns-in-Marks-clause-fits g c = subst (λ (command : Command). FitsCaller (ca
 
 pub returns-in-Checkpoint-clause-fits : goal.returns-in-Checkpoint-clause-fits
 returns-in-Checkpoint-clause-fits g c = subst (λ (command : Command). FitsCaller (caller (command_of command)) c.answer_to_call.result) (sym c.in-Checkpoint.is) (c.answer_to_call.ensures.fits None)
+
+pub returns-in-Flush-clause-fits : goal.returns-in-Flush-clause-fits
+returns-in-Flush-clause-fits g c = subst (λ (command : Command). FitsCaller (caller (command_of command)) c.answer_to_flush.result) (sym c.in-Flush.is) c.answer_to_flush.ensures.fits

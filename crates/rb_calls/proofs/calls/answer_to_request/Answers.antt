@@ -28,6 +28,13 @@ returns-in-Commit g c = record {
   fits = c.answer_to_commit.ensures.fits c.args.s;
 }
 
+pub returns-in-CommitLater : goal.returns-in-CommitLater
+returns-in-CommitLater g c = record {
+  made = subst (λ (request : Request). (k : ℕ) → Made g.T.Store (call_of (asked_by c.args.s request) k) (answer_of c.answer_to_commit_later.result c.args.row.now) c.args.engine.now c.commit_later.new.self) (sym c.in-CommitLater.is)
+      (λ k. made_by g.T.Store _ c.args.engine.now c.commit_later.new.self _ _ _ (c.answer_to_commit_later.ensures.answer c.args.row.now) (c.answer_to_commit_later.ensures.fault c.args.row.now) c.commit_later.ensures.did c.commit_later.ensures.makes (λ h st scn lost is. tt) c.commit_later.ensures.same c.commit_later.ensures.disk);
+  fits = c.answer_to_commit_later.ensures.fits c.args.s;
+}
+
 pub returns-in-Rollback : goal.returns-in-Rollback
 returns-in-Rollback g c = record {
   made = subst (λ (request : Request). (k : ℕ) → Made g.T.Store (call_of (asked_by c.args.s request) k) (answer_of c.answer_to_call.result c.args.row.now) c.args.engine.now c.rollback.new.self) (sym c.in-Rollback.is)

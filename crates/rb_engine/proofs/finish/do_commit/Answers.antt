@@ -1,9 +1,11 @@
-use Rattle.std.proofs.Common.{◌≡◌, inr, [], None, false, refl, sym, ◌∙◌, ap, subst, arith, List, map, ◌-◌}
+use Rattle.std.proofs.Common.{◌≡◌, inr, Bool, true, [], None, false, refl, sym, ◌∙◌, ap, subst, arith, List, map, ◌-◌}
 use Rattle.std.proofs.lemmas.Result.{err_from_is_err_and}
 use Rattle.rb_base.specs.Logs.{Laws}
+use Rattle.rb_engine.specs.Checks.{Refuses}
 use Rattle.rb_engine.specs.Does.{Does, EngineView, IsInStep, Kept, Stands}
+use Rattle.rb_engine.specs.Finishing.{commit_call}
 use Rattle.rb_model.specs.Calls as machine
-use Rattle.rb_model.specs.Calls.{MayAnswer, is_empty}
+use Rattle.rb_model.specs.Calls.{Answer, MayAnswer, is_empty, none_applies}
 use Rattle.rb_model.specs.NextState.{cursors_of, ended, freeing}
 use Rattle.rb_sessions.specs.Kept.{KeptSession, kept_at}
 use Rattle.rb_sessions.specs.Kept as table
@@ -11,7 +13,7 @@ use Rattle.law_blocks.specs.Standing.{env_of}
 use Rattle.law_sessions.proofs.Ended.{end_remembered}
 use Rattle.rb_engine.proofs.QueueLemmas.{all_asked}
 use Rattle.rb_engine.proofs.DoesLemmas.{does_refused}
-use Rattle.rb_engine.proofs.FinishLemmas.{does_ended}
+use Rattle.rb_engine.proofs.FinishLemmas.{after_end, does_ended, early_commit, grows_end, may_end, no_write, reads_nothing}
 use Rattle.rb_engine.proofs.StepLemmas.{few_less, fit_at, fit_committed, in_step_moved, queue_moved}
 use Rattle.law_sessions.specs.Views.{Remembers}
 use Rattle.rb_engine.proofs.MakesLemmas.{makes_nothing, makes_refused}
@@ -33,8 +35,8 @@ pub returns-in_err-check_session-clause-did : goal.returns-in_err-check_session-
 returns-in_err-check_session-clause-did g c =
     let p = err_from_is_err_and c.from_residual.result c.from_residual.ensures.1 in
     rw (p.1, p.2) (λ h st.
-    does_refused g.T.Store (laws_of g) h (machine.Commit c.args.s) c.in_err-check_session.field-0.0 (record { memory = c.args.memory.now; store = c.args.store.now }) st c.requires.step.going
-    (c.in_err-check_session.ensures.refused h st.knows) c.in_err-check_session.ensures.other)
+    does_refused g.T.Store (laws_of g) h (commit_call c.args.lasting c.args.s) c.in_err-check_session.field-0.0 (record { memory = c.args.memory.now; store = c.args.store.now }) st c.requires.step.going
+    (subst (λ (tests : List (Bool × Answer)). Refuses tests c.in_err-check_session.field-0.0) (sym (early_commit c.args.lasting h c.args.s)) (c.in_err-check_session.ensures.refused h st.knows)) c.in_err-check_session.ensures.other)
 
 pub returns-in-None-clause-step : goal.returns-in-None-clause-step
 returns-in-None-clause-step g c =
@@ -63,9 +65,11 @@ returns-in-None-clause-did g c = λ h st.
     let there = c.in_ok-check_session.ensures.session in
     let own : (kept_at inside.sessions c.args.s).own ≡ None = sym c.session-session.ensures.own ∙ c.in-None.is in
     let early = c.in_ok-check_session.ensures.granted h st.knows in
-    subst (λ (k : Kept). Does s h (machine.Commit c.args.s) machine.Done (record { memory = k; store = store }) new) c.memory.view_is
-    (does_ended s (laws_of g) h (machine.Commit c.args.s) c.args.s (cursors_of h c.args.s) old new here going there (is.going (ap (λ (k : Kept). k.stopped) c.memory.view_is ∙ c.in_ok-check_session.ensures.going)) (λ now s t k a is done. cc) own (is.idle c.args.s own) early
-    (λ free none. MayAnswer.later [] early refl (rw none refl)) (λ free none. inr (none, inr (free, refl))) (λ free none. inr (none, inr (free, refl)))
+    let l = c.args.lasting in
+    let free_of_tests = subst (λ (tests : List (Bool × Answer)). none_applies tests ≡ true) (sym (early_commit l h c.args.s)) early in
+    subst (λ (k : Kept). Does s h (commit_call l c.args.s) machine.Done (record { memory = k; store = store }) new) c.memory.view_is
+    (does_ended s (laws_of g) h (commit_call l c.args.s) c.args.s (cursors_of h c.args.s) old new here going there (is.going (ap (λ (k : Kept). k.stopped) c.memory.view_is ∙ c.in_ok-check_session.ensures.going)) (λ now s t k a is done. no_write l c.args.s s t k a is) own (is.idle c.args.s own) free_of_tests
+    (λ free none. may_end l h (s.lsn store) c.args.s none early) (λ free none. after_end l h (freeing (ended h c.args.s (cursors_of h c.args.s)) c.args.s) c.args.s none (inr (free, refl))) (λ free none. grows_end l h c.args.s 0 none (inr (free, refl)))
     (λ free empty xids stand knows. subst (Remembers (freeing (ended h c.args.s (cursors_of h c.args.s)) c.args.s) xids (env_of h.shape (s.blocks store))) (sym c.commit.ensures) (end_remembered h (freeing (ended h c.args.s (cursors_of h c.args.s)) c.args.s) xids (s.blocks store) (env_of h.shape (s.blocks store)) inside.sessions c.args.s stand knows there.0 there.1 empty (inr (free, refl)) (λ u t owns. refl)))
     (ap (λ (l : List KeptSession). map (λ k. k.asked) l) c.commit.ensures ∙ all_asked inside.sessions (c.args.s - 1) (table.committed (kept_at inside.sessions c.args.s)) refl) c.free.ensures
     refl refl refl refl)
@@ -80,7 +84,7 @@ returns-in-None-clause-makes g c = λ h st fine.
     let here : Stands s h old = subst (λ (k : Kept). Stands s h (record { memory = k; store = store })) (sym c.memory.view_is) st in
     let going : h.stopped ≡ false = sym st.knows.stopped ∙ c.in_ok-check_session.ensures.going in
     let own : (kept_at inside.sessions c.args.s).own ≡ None = sym c.session-session.ensures.own ∙ c.in-None.is in
-    makes_nothing s h old (here.goes going) c.args.s c.in_ok-check_session.ensures.session own (s.lsn store) (s.blocks store) (is.idle c.args.s own)
+    makes_nothing s h old (here.goes going) c.args.s c.in_ok-check_session.ensures.session own c.args.lasting (s.lsn store) (s.blocks store) (is.idle c.args.s own)
 
 pub returns-in_err-check_session-clause-makes : goal.returns-in_err-check_session-clause-makes
 returns-in_err-check_session-clause-makes g c =
@@ -88,7 +92,7 @@ returns-in_err-check_session-clause-makes g c =
     rw (p.1, p.2) (λ h st fine.
     let s = g.T.Store in
     let store = c.args.store.now in
-    makes_refused h (machine.Commit c.args.s) (s.lsn store) (s.blocks store) (s.blocks store) refl c.in_err-check_session.field-0.0 (λ scn lost is. refl))
+    makes_refused h (commit_call c.args.lasting c.args.s) (s.lsn store) (s.blocks store) (s.blocks store) refl c.in_err-check_session.field-0.0 (λ scn lost is. reads_nothing c.args.lasting h c.args.s (s.lsn store) (s.blocks store)))
 
 pub returns-in_err-check_session-clause-holds_back : goal.returns-in_err-check_session-clause-holds_back
 returns-in_err-check_session-clause-holds_back g c =
@@ -97,3 +101,15 @@ returns-in_err-check_session-clause-holds_back g c =
 
 pub returns-in-None-clause-holds_back : goal.returns-in-None-clause-holds_back
 returns-in-None-clause-holds_back g c = λ none. g.met.T.Store.holds_back_same c.args.store.now
+
+pub returns-in_err-check_session-clause-waits : goal.returns-in_err-check_session-clause-waits
+returns-in_err-check_session-clause-waits g c = λ later fine. g.met.T.Store.holds_back_same c.args.store.now
+
+pub returns-in-None-clause-waits : goal.returns-in-None-clause-waits
+returns-in-None-clause-waits g c = λ later fine. g.met.T.Store.holds_back_same c.args.store.now
+
+pub returns-in-Some-2-clause-did : goal.returns-in-Some-2-clause-did
+returns-in-Some-2-clause-did g c = c.end_without_changes.ensures.did c.args.lasting
+
+pub returns-in-Some-2-clause-makes : goal.returns-in-Some-2-clause-makes
+returns-in-Some-2-clause-makes g c = c.end_without_changes.ensures.makes c.args.lasting

@@ -1,17 +1,19 @@
-use Rattle.std.proofs.Common.{inr, [], ◌≡◌, ◌+◌, ◌*◌, ◌/◌, ℕ, List, Some, length, false, refl, sym, ◌∙◌, ap, subst, arith}
+use Rattle.std.proofs.lemmas.Bool.{false≢true}
+use Rattle.std.proofs.Common.{inr, Bool, true, [], ◌≡◌, ◌+◌, ◌*◌, ◌/◌, ℕ, List, Some, length, false, refl, sym, ◌∙◌, ap, subst, arith}
 use Rattle.rb_base.specs.declared.sizes.TheConstants.{SLOTS}
 use Rattle.rb_base.specs.Logs.{Laws}
 use Rattle.rb_engine.specs.Does.{Does, EngineView, IsInStep, Kept, Stands, slots_had}
+use Rattle.rb_engine.specs.Finishing.{commit_call}
 use Rattle.law_crash.proofs.Kept.{rows_kept}
 use Rattle.law_crash.specs.Made.{BackOver}
 use Rattle.rb_model.specs.Calls as machine
-use Rattle.rb_model.specs.Calls.{MayAnswer, is_empty}
+use Rattle.rb_model.specs.Calls.{Answer, MayAnswer, is_empty, none_applies}
 use Rattle.rb_model.specs.Queue.{is_queued}
 use Rattle.rb_model.specs.State.{session_own}
 use Rattle.rb_sessions.specs.Kept.{KeptSession, kept_at}
 use Rattle.rb_sessions.specs.Kept as table
 use Rattle.law_blocks.specs.Groups.{IsEnded}
-use Rattle.rb_engine.proofs.FinishLemmas.{count_is, does_not, goes, no_early, no_items, own_id, who_in}
+use Rattle.rb_engine.proofs.FinishLemmas.{count_is, does_not, early_commit, goes, no_early, no_items, own_id, who_in}
 use Rattle.rb_engine.proofs.RollbackLemmas.{does_left}
 use Rattle.rb_engine.proofs.StepLemmas.{few_less, fit_at, fit_committed, in_step_moved, queue_moved}
 use Rattle.rb_engine.proofs.MakesLemmas.{makes_left}
@@ -48,7 +50,7 @@ returns-clause-step g c =
     (λ going. (c.in-Ok.ensures.failed, few_less s inside now store new is shape c.args.s c.requires.session (table.committed k) fit c.commit.ensures going (omega (arith, lsn, slot))))
 
 pub returns-clause-did : goal.returns-clause-did
-returns-clause-did g c = λ h st.
+returns-clause-did g c = λ l h st.
     let s = g.T.Store in
     let store = c.args.store.now in
     let inside : Kept = record { sessions = c.memory.inside.sessions; waits = c.memory.inside.waits; scn = c.memory.inside.scn; stopped = c.memory.inside.stopped; copies = c.memory.inside.copies } in
@@ -64,8 +66,8 @@ returns-clause-did g c = λ h st.
     let new : EngineView _ = record { memory = record { sessions = c.commit.new.self; waits = c.free.new.self; scn = c.memory.inside.scn; stopped = c.memory.inside.stopped; copies = c.memory.inside.copies }; store = c.put_all_back.new.store } in
     let held = goes s st.told (laws_of g) h old c.args.s c.args.xid here going there own in
     let who = who_in s st.told (laws_of g) h old c.args.s c.args.xid here going there own in
-    subst (λ (k : Kept). Does s h (machine.Commit c.args.s) machine.Done (record { memory = k; store = store }) new) c.memory.view_is
-    (does_left s st.told (laws_of g) h old c.args.s c.args.xid here going there own new c.put_all_back.ensures.same out (no_items (session_own h c.args.s) none)
+    subst (λ (k : Kept). Does s h (commit_call l c.args.s) machine.Done (record { memory = k; store = store }) new) c.memory.view_is
+    (does_left s st.told (laws_of g) h old c.args.s c.args.xid here going there own new c.put_all_back.ensures.same l out (no_items (session_own h c.args.s) none)
     (c.in-Ok.ensures.puts_back st.told h held.xids c.args.s st.shape held.holds who.0 who.1 (own_id s st.told (laws_of g) h old c.args.s c.args.xid here going there own) going none)
     c.commit.ensures c.free.ensures refl refl refl)
 
@@ -91,7 +93,7 @@ returns-clause-rows g c = λ h st.
     rows_kept h.shape (slot / SLOTS) (s.blocks store) now (subst (λ (blocks : List (List ℕ)). IsEnded h.shape slot blocks now) back last.2).group
 
 pub returns-in-Err-clause-did : goal.returns-in-Err-clause-did
-returns-in-Err-clause-did g c = rw c.fail.ensures.answer (λ h st.
+returns-in-Err-clause-did g c = rw c.fail.ensures.answer (λ l h st.
     let s = g.T.Store in
     let old : EngineView _ = record { memory = c.args.memory.now; store = c.args.store.now } in
     let own = c.requires.own in
@@ -102,12 +104,12 @@ returns-in-Err-clause-did g c = rw c.fail.ensures.answer (λ h st.
     let new : EngineView _ = record { memory = c.fail.new.self; store = c.put_all_back.new.store } in
     let held = goes s st.told (laws_of g) h old c.args.s c.args.xid st going there own in
     let who = who_in s st.told (laws_of g) h old c.args.s c.args.xid st going there own in
-    does_not s st.told (laws_of g) h old c.args.s c.args.xid st going there own new c.put_all_back.ensures.same (machine.Commit c.args.s) (no_early h c.args.memory.now c.args.s st.knows going there c.requires.free)
-    (c.in-Err.ensures.puts_back st.told h held.xids c.args.s st.shape held.holds who.0 who.1 (own_id s st.told (laws_of g) h old c.args.s c.args.xid st going there own) going none (Some (machine.Commit c.args.s)))
+    does_not s st.told (laws_of g) h old c.args.s c.args.xid st going there own new c.put_all_back.ensures.same (commit_call l c.args.s) (subst (λ (tests : List (Bool × Answer)). none_applies tests ≡ true) (sym (early_commit l h c.args.s)) (no_early h c.args.memory.now c.args.s st.knows going there c.requires.free))
+    (c.in-Err.ensures.puts_back st.told h held.xids c.args.s st.shape held.holds who.0 who.1 (own_id s st.told (laws_of g) h old c.args.s c.args.xid st going there own) going none (Some (commit_call l c.args.s)))
     c.fail.ensures.stopped)
 
 pub returns-clause-makes : goal.returns-clause-makes
-returns-clause-makes g c = λ h st fine.
+returns-clause-makes g c = λ l h st fine.
     let s = g.T.Store in
     let store = c.args.store.now in
     let inside : Kept = record { sessions = c.memory.inside.sessions; waits = c.memory.inside.waits; scn = c.memory.inside.scn; stopped = c.memory.inside.stopped; copies = c.memory.inside.copies } in
@@ -122,11 +124,11 @@ returns-clause-makes g c = λ h st fine.
     let id = own_id s st.told (laws_of g) h old c.args.s c.args.xid here going there own in
     let none : length (session_own h c.args.s) ≡ 0 = sym count ∙ (ap (λ (k : Kept). (kept_at k.sessions c.args.s).count) c.memory.view_is ∙ c.requires.none) in
     let new = c.put_all_back.new.store in
-    makes_left s st.told (laws_of g) h old c.args.s c.args.xid here going there own (s.lsn new) new none
+    makes_left s st.told (laws_of g) h old c.args.s c.args.xid here going there own (s.lsn new) new l none
     (c.in-Ok.ensures.puts_back st.told h held.xids c.args.s st.shape held.holds who.0 who.1 id going none)
 
 pub returns-clause-holds_back : goal.returns-clause-holds_back
-returns-clause-holds_back g c = λ none. c.in-Ok.ensures.holds_back
+returns-clause-holds_back g c = λ fine. c.in-Ok.ensures.holds_back
 
 pub returns-in-Err-clause-holds_back : goal.returns-in-Err-clause-holds_back
-returns-in-Err-clause-holds_back g c = rw c.fail.ensures.answer (λ none. absurd none)
+returns-in-Err-clause-holds_back g c = rw c.fail.ensures.answer (λ fault. absurd (false≢true (sym fault)))

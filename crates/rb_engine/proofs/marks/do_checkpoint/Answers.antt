@@ -3,7 +3,7 @@ use Rattle.rb_base.specs.Logs.{Flushes, Laws, flush_logs}
 use Rattle.rb_engine.specs.Does.{EngineView, Kept}
 use Rattle.rb_model.specs.Calls as machine
 use Rattle.rb_model.specs.Calls.{MayAnswer}
-use Rattle.rb_engine.proofs.DoesLemmas.{does_fault, does_loaded, fault_survives, survives_same}
+use Rattle.rb_engine.proofs.DoesLemmas.{does_fault, does_flushed, fault_survives, survives_same}
 use Rattle.rb_engine.proofs.StepLemmas.{in_step_same}
 use Rattle.rb_engine.proofs.marks.do_checkpoint.Given.{Over}
 use Rattle.rb_engine.proofs.marks.do_checkpoint.Goals as goal
@@ -37,8 +37,8 @@ returns-in-Ok-clause-did g c = λ h st.
     let going : h.stopped ≡ false = sym st.knows.stopped ∙ (ap (λ (k : Kept). k.stopped) (sym c.memory.view_is) ∙ c.if-memory.false) in
     let e = c.in-Ok.ensures in
     let logs : Flushes s c.args.store.now c.checkpoint.new.self [] true = flush_logs s c.args.store.now c.checkpoint.new.self (Ok c.in-Ok.field-0) e.shape e.slots e.failed e.counted e.lsn e.blocks e.settles e.any_moment in
-    does_loaded s st.told (laws_of g) h machine.Checkpoint machine.Done old (record { memory = c.args.memory.now; store = c.checkpoint.new.self }) st
-    (MayAnswer.later [] (rw going refl) refl refl) refl refl (λ s t k a is done. cc) refl (λ _. logs) (record { shape = e.shape; slots = e.slots })
+    does_flushed s st.told (laws_of g) h machine.Checkpoint machine.Done old (record { memory = c.args.memory.now; store = c.checkpoint.new.self }) st going
+    (MayAnswer.later [] (rw going refl) refl refl) refl refl (λ s t k a is done. cc) refl logs e.flushed (record { shape = e.shape; slots = e.slots })
 
 pub returns-in-Ok-clause-step : goal.returns-in-Ok-clause-step
 returns-in-Ok-clause-step g c =
@@ -53,7 +53,7 @@ returns-in-Err-clause-leaves g c = λ h st going fault keeps.
     let e = c.in-Err.ensures in
     let goes = st.goes going in
     let logs : Flushes s c.args.store.now c.checkpoint.new.self [] false = flush_logs s c.args.store.now c.checkpoint.new.self (Err c.in-Err.field-0) e.shape e.slots e.failed e.counted e.lsn e.blocks e.settles e.any_moment in
-    survives_same s st.told (laws_of g) h h goes.xids c.args.store.now c.checkpoint.new.self false st.shape refl refl refl goes.holds logs keeps
+    survives_same s st.told (laws_of g) h h goes.xids c.args.store.now c.checkpoint.new.self false st.shape refl refl refl refl goes.holds logs keeps
 
 pub returns-in-Ok-clause-leaves : goal.returns-in-Ok-clause-leaves
 returns-in-Ok-clause-leaves g c = λ h st going fault keeps.
@@ -61,4 +61,4 @@ returns-in-Ok-clause-leaves g c = λ h st going fault keeps.
     let e = c.in-Ok.ensures in
     let goes = st.goes going in
     let logs : Flushes s c.args.store.now c.checkpoint.new.self [] true = flush_logs s c.args.store.now c.checkpoint.new.self (Ok c.in-Ok.field-0) e.shape e.slots e.failed e.counted e.lsn e.blocks e.settles e.any_moment in
-    survives_same s st.told (laws_of g) h h goes.xids c.args.store.now c.checkpoint.new.self true st.shape refl refl refl goes.holds logs keeps
+    survives_same s st.told (laws_of g) h h goes.xids c.args.store.now c.checkpoint.new.self true st.shape refl refl refl refl goes.holds logs keeps

@@ -10,7 +10,8 @@ use Rattle.rb_model.specs.declared.refusal.Refusal.TheVariants.{TooOld}
 use Rattle.rb_sessions.specs.Kept.{asked_of_pending}
 use Rattle.rb_waits.specs.Room.{AreQueuedOnce}
 use Rattle.rb_waits.proofs.Turns.{ready_is_there, ready_leaves}
-use Rattle.rb_engine.proofs.QueueLemmas.{blocks_stand, queue_left}
+use Rattle.law_crash.proofs.Beside.{blocks_stand}
+use Rattle.rb_engine.proofs.QueueLemmas.{queue_left}
 use Rattle.rb_engine.proofs.LateLemmas.{same_resumed}
 use Rattle.rb_engine.proofs.StepLemmas.{in_step_queue}
 use Rattle.rb_engine.proofs.WaitLemmas.{asked_held, does_from, held_some, stands_left}
@@ -91,7 +92,7 @@ returns-clause-lost g c = λ h st who scn lost is.
     let both = same_resumed w who c.do_write-outcome.result (Err (TooOld scn lost)) is in
     let needs = c.do_write-outcome.ensures.lost (unqueued h w) (stands_left s h w inside now store here left) scn lost both.1 in
     subst (λ (u : ℕ). ResumeNeedsLost s h (record { memory = c.args.memory.now; store = store }) u scn lost) both.0
-    (asked_of_pending p, asked_held h inside knows w c.held.result p c.held.ensures c.in_ok-pending.was, (needs.0, record { stand = blocks_stand (unqueued h w) h.queue h.asked needs.0 (s.blocks store) needs.1.stand; old = needs.1.old }))
+    (asked_of_pending p, asked_held h inside knows w c.held.result p c.held.ensures c.in_ok-pending.was, (needs.0, record { stand = blocks_stand (unqueued h w) h.queue h.asked h.safe needs.0 (s.blocks store) needs.1.stand; old = needs.1.old }))
 
 pub returns-clause-tells : goal.returns-clause-tells
 returns-clause-tells g c = λ h st fine.

@@ -7,7 +7,7 @@ use Rattle.rb_shell.proofs.RunLemmas.{complete_format, complete_run, not_longer,
 use Rattle.rb_words.proofs.Spelling.{same_file, same_gen, not_both, not_format_and_gen, not_run_and_gen}
 use Rattle.rb_shell.proofs.GenerationLemmas.{complete_gen, gen_source}
 use Rattle.rb_shell.proofs.StatusLemmas.{beside, format_sink, format_source, uncounted}
-use Rattle.rb_shell.proofs.LeftLemmas.{is_cut_over, leaves_same, leaves_some, opens_with, runs_over}
+use Rattle.rb_shell.proofs.LeftLemmas.{is_cut_over, leaves_same, leaves_some, opens_with, runs_over, runs_to_end}
 use Rattle.rb_shell.specs.Left.{fresh}
 use Rattle.rb_shell.specs.Generation.{HasTold, MadeOver, WasNotTold}
 use Rattle.rb_shell.specs.Runs.{Endures, IsSound, Lasts, WasStopped}
@@ -283,7 +283,7 @@ returns-in-Ok-Some-Run-clause-left g c = λ disk told n asked is slots h left.
     let w = opens_with slots (g.D.Disk.content c.args.disk) h left in
     let all = c.run_script.ensures.done disk told is w.sound in
     let r = all.run in
-    runs_over slots (g.D.Disk.content c.args.disk) h left g.D.Disk c.args.disk c.run_script.result.1 w all.first _ g.K.Sink.tells _ _ r.now r.ran r.endured.endured
+    runs_to_end slots (g.D.Disk.content c.args.disk) h left g.D.Disk c.args.disk c.run_script.result.1 w all.first _ g.K.Sink.tells _ _ r.now r.ran r.endured
 
 pub returns-in-Ok-Some-Run-clause-left_source : goal.returns-in-Ok-Some-Run-clause-left_source
 returns-in-Ok-Some-Run-clause-left_source g c = λ disk told is slots h left.

@@ -5,7 +5,7 @@ use Rattle.rb_shell.specs.Statuses.{AsksScript}
 use Rattle.rb_shell.proofs.GenerationLemmas.{no_counts, same_made}
 use Rattle.rb_shell.proofs.RunLemmas.{endures}
 use Rattle.rb_shell.specs.Generation.{HasMade, MadeOn}
-use Rattle.rb_shell.specs.Runs.{Endures, HasOpened, IsSound, Lasts, first_of}
+use Rattle.rb_shell.specs.Runs.{Endures, HasOpened, IsSound, IsWhole, Lasts, first_of}
 use Rattle.rb_shell.specs.declared.status.Status.TheVariants.{Done, DiskFault, SinkFault}
 use Rattle.rb_store.specs.Meaning.{Opens}
 use Rattle.rb_store.specs.contracts.store.LogStoreStore.TheImpl.{ghosts}
@@ -32,7 +32,7 @@ module _ (g : Over) (c : After-close g) (disk : g.D.Disk.tells) (sound : IsSound
   lasts : c.make_commands-status.result.0 ≢ DiskFault → Lasts g.D.Disk c.args.disk c.close.result sound.store.layout sound.state did.made.now
   lasts fine = record {
     endured = endured;
-    last = λ file here. subst (λ (k : ℕ). Opens did.made.now.state.shape (Some k) file did.made.now.blocks did.made.now.lsn) opened.slots
+    last = λ file here. subst (λ (k : ℕ). IsWhole Opens (Some k) did.made.now file) opened.slots
         (did.last disk fine file (subst (λ d. g.D.Disk.image d file) c.close.ensures here));
   }
 

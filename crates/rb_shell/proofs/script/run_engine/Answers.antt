@@ -1,4 +1,4 @@
-use Rattle.std.proofs.Common.{◌≡◌, ◌≢◌, ◌∙◌, ⊎_elim, ap, sym, subst, ℕ}
+use Rattle.std.proofs.Common.{◌≡◌, ◌≢◌, ◌∙◌, ⊎_elim, ap, sym, subst, ℕ, Option}
 use Rattle.rb_lines.specs.Ends.{EndsAs}
 use Rattle.rb_lines.specs.Ends as lines
 use Rattle.rb_lines.specs.Faults.{IsCountedBeside}
@@ -6,7 +6,7 @@ use Rattle.rb_lines.specs.declared.lines.LinesEnd.{LinesEnd}
 use Rattle.rb_lines.specs.declared.lines.LinesEnd.TheVariants as ends
 use Rattle.law_crash.proofs.Crashes.{survives_on}
 use Rattle.law_crash.specs.Crash.{Survives}
-use Rattle.rb_shell.specs.Runs.{MadeLast}
+use Rattle.rb_shell.specs.Runs.{IsWhole, MadeLast}
 use Rattle.rb_calls.specs.Since.{engine_outside}
 use Rattle.rb_shell.specs.Statuses.{by_disk, by_sink, by_source}
 use Rattle.rb_shell.specs.declared.status.Status.TheVariants as statuses
@@ -25,12 +25,12 @@ returns-clause-did g c = λ t m is going.
     let d = c.run_lines-end.ensures.did t m is going in
     let ends_as : ℕ → LinesEnd → Type 0 = λ n x. EndsAs engine_outside n m d.now (g.S.Source.left c.args.source.now) (g.S.Source.left c.run_lines-end.new.source) g.K.Sink.tells (g.K.Sink.held c.args.sink.now) (g.K.Sink.held c.run_lines-end.new.sink) x in
     let ran = subst (λ (n : ℕ). ends_as n end) c.requires.buffer d.ran in
-    let crash : (s.keeps → Survives s (s.slots old) d.now.fault m.state d.now.state old new) × (s.keeps → status ≡ statuses.Done → (i : s.image) → s.left new i → s.opens d.now.state.shape (s.slots old) i d.now.blocks d.now.lsn) = ⊎_elim
+    let crash : (s.keeps → Survives s (s.slots old) d.now.fault m.state d.now.state old new) × (s.keeps → status ≡ statuses.Done → (i : s.image) → s.left new i → IsWhole s.opens (s.slots old) d.now i) = ⊎_elim
     (λ (done : end ≡ ends.Done).
     let all = subst (ends_as _) done ran in
     let made : MadeLast s mid new d.now status = e.lasts done d.now d.reached all.1 in (
       λ kept. survives_on s (s.slots old) m.state d.now.state d.now.state old mid new all.1 (d.passed.crash kept) (subst (λ (k : _). Survives s k d.now.fault d.now.state d.now.state mid new) d.passed.same.slots (made.crash d.now.fault kept)),
-      λ kept fine i here. subst (λ (k : _). s.opens d.now.state.shape k i d.now.blocks d.now.lsn) d.passed.same.slots (made.last kept fine i here),
+      λ kept fine i here. subst (λ (k : Option ℕ). IsWhole s.opens k d.now i) d.passed.same.slots (made.last kept fine i here),
     ))
     (λ (other : end ≢ ends.Done).
     let same = e.same other in

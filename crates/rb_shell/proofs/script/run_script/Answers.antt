@@ -8,7 +8,7 @@ use Rattle.rb_lines.specs.declared.lines.LinesEnd.TheVariants as ends
 use Rattle.rb_model.specs.Out.{Logged}
 use Rattle.rb_model.specs.State.{State}
 use Rattle.rb_calls.specs.Since.{engine_outside}
-use Rattle.rb_shell.specs.Runs.{IsSound, first_of}
+use Rattle.rb_shell.specs.Runs.{IsSound, IsWhole, first_of}
 use Rattle.rb_store.specs.Meaning.{Opens}
 use Rattle.rb_store.specs.contracts.store.LogStoreStore.TheImpl.{ghosts}
 use Rattle.rb_shell.specs.Runs.{Endures, HasOpened, HasRun, Lasts, LeftBehind, PassedOn, RanOn}
@@ -68,7 +68,7 @@ module _ (g : Over) (c : After-close g) (disk : g.D.Disk.tells) (told : g.S.Sour
   lasts : c.run_engine-status.result.0 ≡ Done → Lasts g.D.Disk c.args.disk c.close.result sound.store.layout sound.state did.now
   lasts fine = record {
     endured = endured;
-    last = λ file here. subst (λ (k : ℕ). Opens did.now.state.shape (Some k) file did.now.blocks did.now.lsn) opened.slots
+    last = λ file here. subst (λ (k : ℕ). IsWhole Opens (Some k) did.now file) opened.slots
         (did.last disk fine file (subst (λ d. g.D.Disk.image d file) c.close.ensures here));
   }
 

@@ -9,11 +9,11 @@ pub returns-clause-did : goal.returns-clause-did
 returns-clause-did g c = λ h st.
     let s = g.T.Store in
     let call = c.do_commit in
-    subst (λ e. Does s h (machine.Commit c.args.s) (commit_answer call.result) e (record { memory = call.new.memory; store = call.new.store })) c.self.view_is (call.ensures.did h (subst (Stands s h) (sym c.self.view_is) st))
+    subst (λ e. Does s h (machine.Commit c.args.s) (commit_answer machine.Committed call.result) e (record { memory = call.new.memory; store = call.new.store })) c.self.view_is (call.ensures.did h (subst (Stands s h) (sym c.self.view_is) st))
 
 pub returns-clause-makes : goal.returns-clause-makes
 returns-clause-makes g c = λ h st fine.
     let s = g.T.Store in
     let new = c.do_commit.new.store in
-    subst (λ (e : EngineView _). Makes h (machine.Commit c.args.s) (commit_answer c.do_commit.result) (s.lsn new) (s.blocks e.store) (s.blocks new)) c.self.view_is
+    subst (λ (e : EngineView _). Makes h (machine.Commit c.args.s) (commit_answer machine.Committed c.do_commit.result) (s.lsn new) (s.blocks e.store) (s.blocks new)) c.self.view_is
     (c.do_commit.ensures.makes h (subst (Stands s h) (sym c.self.view_is) st) fine)

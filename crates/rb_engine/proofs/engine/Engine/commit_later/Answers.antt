@@ -1,0 +1,19 @@
+use Rattle.std.proofs.Common.{sym, subst}
+use Rattle.rb_engine.specs.Does.{Does, EngineView, Stands}
+use Rattle.rb_model.specs.Answers.{commit_answer}
+use Rattle.rb_model.specs.Calls as machine
+use Rattle.rb_engine.specs.Makes.{Makes}
+use Rattle.rb_engine.proofs.engine.Engine.commit_later.Goals as goal
+
+pub returns-clause-did : goal.returns-clause-did
+returns-clause-did g c = λ h st.
+    let s = g.T.Store in
+    let call = c.do_commit in
+    subst (λ e. Does s h (machine.CommitLater c.args.s) (commit_answer machine.Numbered call.result) e (record { memory = call.new.memory; store = call.new.store })) c.self.view_is (call.ensures.did h (subst (Stands s h) (sym c.self.view_is) st))
+
+pub returns-clause-makes : goal.returns-clause-makes
+returns-clause-makes g c = λ h st fine.
+    let s = g.T.Store in
+    let new = c.do_commit.new.store in
+    subst (λ (e : EngineView _). Makes h (machine.CommitLater c.args.s) (commit_answer machine.Numbered c.do_commit.result) (s.lsn new) (s.blocks e.store) (s.blocks new)) c.self.view_is
+    (c.do_commit.ensures.makes h (subst (Stands s h) (sym c.self.view_is) st) fine)
