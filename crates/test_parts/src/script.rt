@@ -40,6 +40,14 @@ commit
 commit\x20
 commit 1\x20
 commit 1 1
+commit 1 LATER
+commit 1 late
+commit 1 later\x20
+commit 1 later 1
+commit 1  later
+commit later
+commit later 1
+commit 65536 later
 commit +1
 commit -1
 close 1
@@ -89,6 +97,9 @@ set 65536 read-committed
 sets 1 read-only
 marks\x20
 marks 0
+flush 1
+flush\x20
+flushes
 checkpoint 1
 \x20
 ";
@@ -114,6 +125,7 @@ fn numbers_of_request(request: &Request<'_>) -> (u8, [u64; 3]) {
         }
         Request::Lock { t, k } => (b'l', [u64::from(*t), *k, 0]),
         Request::Commit => (b'c', [0; 3]),
+        Request::CommitLater => (b'w', [0; 3]),
         Request::Rollback => (b'r', [0; 3]),
         Request::Set { .. } => (b'e', [0; 3]),
         Request::Savepoint { .. } => (b's', [0; 3]),
@@ -133,6 +145,7 @@ fn numbers_of(command: &Command<'_>) -> (u8, [u64; 4]) {
             (letter, [u64::from(*s), first, second, third])
         }
         Command::Marks => (b'm', [0; 4]),
+        Command::Flush => (b'h', [0; 4]),
         Command::Checkpoint => (b'p', [0; 4]),
     }
 }
@@ -182,7 +195,7 @@ fn spells(line: &[u8], letter: u8, numbers: [u64; 4], text: &[u8]) -> bool {
 
 #[test]
 fn lines_that_spell_a_command(rt: HostRuntime) {
-    let rows: [(&[u8], u8, [u64; 4], &[u8]); 17] = [
+    let rows: [(&[u8], u8, [u64; 4], &[u8]); 19] = [
         (
             b"insert 1 2 18446744073709551615 #!",
             b'i',
@@ -203,6 +216,7 @@ fn lines_that_spell_a_command(rt: HostRuntime) {
             b"",
         ),
         (b"commit 65535", b'c', [65535, 0, 0, 0], b""),
+        (b"commit 65535 later", b'w', [65535, 0, 0, 0], b""),
         (b"rollback 65535", b'r', [65535, 0, 0, 0], b""),
         (
             b"set 1 read-committed",
@@ -226,6 +240,7 @@ fn lines_that_spell_a_command(rt: HostRuntime) {
         (b"rollback 0 1", b't', [0, 0, 0, 0], b"1"),
         (b"cancel 65535", b'n', [65535, 0, 0, 0], b""),
         (b"marks", b'm', [0, 0, 0, 0], b""),
+        (b"flush", b'h', [0, 0, 0, 0], b""),
         (b"checkpoint", b'p', [0, 0, 0, 0], b""),
         (b"open 1 _0 65535 9 0", b'o', [1, 65535, 9, 0], b"_0"),
         (
@@ -258,7 +273,7 @@ fn texts_of_replies(rt: HostRuntime) {
     let value = [b'~'; 80];
     let longest =
         b"1 row 1 ~~~~~~~~~~~~~~~~~~~~~~~~~~~~~~~~~~~~~~~~~~~~~~~~~~~~~~~~~~~~~~~~~~~~~~~~~~~~~~~~\n";
-    let rows: [(Reply<'_>, &[u8]); 9] = [
+    let rows: [(Reply<'_>, &[u8]); 11] = [
         (Reply::Done { s: Some(1) }, b"1 ok\n"),
         (Reply::Done { s: None }, b"ok\n"),
         (
@@ -267,6 +282,17 @@ fn texts_of_replies(rt: HostRuntime) {
                 number: u64::MAX,
             },
             b"65535 committed 18446744073709551615\n",
+        ),
+        (
+            Reply::Numbered {
+                s: 65535,
+                number: u64::MAX,
+            },
+            b"65535 numbered 18446744073709551615\n",
+        ),
+        (
+            Reply::Flushed { number: u64::MAX },
+            b"flushed 18446744073709551615\n",
         ),
         (
             Reply::Row {

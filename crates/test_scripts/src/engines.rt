@@ -41,10 +41,11 @@ fn wrote(s: u16, answer: Result<Wrote, Refusal>) -> Reply<'static> {
     }
 }
 
-// The reply to a commit.
-fn committed(s: u16, answer: Result<Option<u64>, Refusal>) -> Reply<'static> {
+// The reply to a commit, one that lasts or a later one.
+fn committed(s: u16, answer: Result<Option<u64>, Refusal>, lasts: bool) -> Reply<'static> {
     match answer {
-        Ok(Some(number)) => Reply::Committed { s, number },
+        Ok(Some(number)) if lasts => Reply::Committed { s, number },
+        Ok(Some(number)) => Reply::Numbered { s, number },
         Ok(None) => Reply::Done { s: Some(s) },
         Err(why) => Reply::Refused { s: Some(s), why },
     }
@@ -63,14 +64,24 @@ fn fetched(s: u16, answer: Result<Fetched, Refusal>, row: &Row) -> Reply<'_> {
     }
 }
 
-// The reply to a line of no session: `marks` of the only segment, or `checkpoint`.
-fn of_nobody<S: Store>(engine: &mut Engine<S>, is_marks: bool) -> Reply<'static> {
-    if !is_marks {
-        return match engine.checkpoint() {
-            Ok(()) => Reply::Done { s: None },
-            Err(why) => Reply::Refused { s: None, why },
-        };
+// The reply to `flush`.
+fn flushed<S: Store>(engine: &mut Engine<S>) -> Reply<'static> {
+    match engine.flush() {
+        Ok(number) => Reply::Flushed { number },
+        Err(why) => Reply::Refused { s: None, why },
     }
+}
+
+// The reply to `checkpoint`.
+fn checkpointed<S: Store>(engine: &mut Engine<S>) -> Reply<'static> {
+    match engine.checkpoint() {
+        Ok(()) => Reply::Done { s: None },
+        Err(why) => Reply::Refused { s: None, why },
+    }
+}
+
+// The reply to `marks` of the only segment.
+fn marked<S: Store>(engine: &mut Engine<S>) -> Reply<'static> {
     if engine.shape().segments == 0 {
         return Reply::BadLine;
     }
@@ -102,7 +113,8 @@ fn asked<'a, S: Store>(
     match request {
         Request::Write { t, k, op } => wrote(s, engine.write(s, *t, *k, op_of(*op))),
         Request::Lock { t, k } => wrote(s, engine.lock(s, *t, *k)),
-        Request::Commit => committed(s, engine.commit(s)),
+        Request::Commit => committed(s, engine.commit(s), true),
+        Request::CommitLater => committed(s, engine.commit_later(s), false),
         Request::Rollback => done(s, engine.rollback(s)),
         Request::Set { mode } => done(s, engine.set(s, *mode)),
         Request::Savepoint { name } => done(s, engine.savepoint(s, name)),
@@ -129,8 +141,9 @@ fn called<'a, S: Store>(engine: &mut Engine<S>, line: &[u8], row: &'a mut Row) -
     }
     match parse(line) {
         Some(Command::Session { s, request }) => asked(engine, s, &request, row),
-        Some(Command::Marks) => of_nobody(engine, true),
-        Some(Command::Checkpoint) => of_nobody(engine, false),
+        Some(Command::Marks) => marked(engine),
+        Some(Command::Flush) => flushed(engine),
+        Some(Command::Checkpoint) => checkpointed(engine),
         None => Reply::BadLine,
     }
 }
@@ -202,8 +215,9 @@ fn log_engine(alloc: Global) -> Result<Engine<LogStore<MemDisk>>, Fail> {
 
 #[test]
 fn one_list_of_calls(rt: HostRuntime) -> Result<(), Fail> {
-    let rows: [(&str, &[u8]); 9] = [
+    let rows: [(&str, &[u8]); 10] = [
         ("writes", WRITES),
+        ("later commits", LATER_COMMITS),
         ("cursors", CURSORS),
         ("rollbacks", ROLLBACKS),
         ("savepoints", SAVEPOINTS),
@@ -222,6 +236,43 @@ fn one_list_of_calls(rt: HostRuntime) -> Result<(), Fail> {
     }
     Ok(())
 }
+
+// A later commit is seen at once and frees who waits, a commit behind it takes the next number, and a flush tells the
+// last one, also where nothing waits.
+const LATER_COMMITS: &[u8] = b"\
+flush
+#> flushed 0
+commit 1 later
+#> 1 ok
+commit 17 later
+#> 17 no session
+insert 1 1 1 a
+#> 1 ok
+update 2 1 1 b
+#> 2 waits 1
+commit 2 later
+#> 2 waiting
+commit 1 later
+#> 1 numbered 1
+resume
+#> 2 ok
+commit 2
+#> 2 committed 2
+lock 1 1 1
+#> 1 ok
+commit 1 later
+#> 1 numbered 3
+flush
+#> flushed 3
+checkpoint
+#> ok
+flush
+#> flushed 3
+open 1 c 1 0 9
+#> 1 ok
+fetch 1 c 1
+#> 1 row 1 b
+";
 
 // Values of 80 and 81 bytes, and of none.
 const WRITES: &[u8] = b"\

@@ -23,6 +23,8 @@ mod isolation;
 #[cfg(test)]
 mod laps;
 #[cfg(test)]
+mod later;
+#[cfg(test)]
 mod mixtures;
 #[cfg(test)]
 mod queues;

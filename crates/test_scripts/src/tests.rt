@@ -420,6 +420,8 @@ insert 1\t1 1 a
 insert 1 1 1 a\x80
 marks 1
 marks 0
+flush 1
+flush 0
 checkpoint 1
 rollback
 rollback 1 \x20
@@ -434,6 +436,11 @@ commit 65536
  commit 1
 commit
 commit 1 1
+commit 1 now
+commit 1 later 1
+commit 1  later
+commit later
+commit 65536 later
 commit +1
 commit -1
 commit 1\r\r
