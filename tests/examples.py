@@ -6,6 +6,7 @@
 Takes the repository's program, and builds it where it isn't there. One line for each check; ends with 1 where one failed.
 CHECKS has functions of a place, as those of tests/tools."""
 import ast
+import contextlib
 import functools
 import os
 import pathlib
@@ -30,9 +31,9 @@ def equal(what, found, wanted):
         raise Wrong(f"{what}: {found!r} in place of {wanted!r}")
 
 
-def environment(place):
-    """What an example finds: the program, and the client."""
-    return {**os.environ, "RBSH": place.program, "PYTHONPATH": str(EXAMPLES), "PYTHONDONTWRITEBYTECODE": "1"}
+def environment(place, program=None):
+    """What an example finds: the program, or another one, and the client."""
+    return {**os.environ, "RBSH": program or place.program, "PYTHONPATH": str(EXAMPLES), "PYTHONDONTWRITEBYTECODE": "1"}
 
 
 def said(place, name, *words, status=0):
@@ -62,7 +63,7 @@ def readme_lines(place):
         raise Wrong(f"they print little: {lines}")
     ended = run([sys.executable, "-c", lines], env=environment(place), cwd=place.folder).wants_status(0)
     equal("what they print", ended.out.decode().splitlines(), wanted)
-    equal("the file", rows(place, place.folder / "shop.rb", 1), {1: "apple"})
+    equal("the file", rows(place, place.folder / "shop.rb", 1), {1: "apple", 2: "pear"})
 
 
 CLIENT = """
@@ -95,6 +96,7 @@ with Store("store.rb") as store:
     # More writes than the log has slots.
     print([s[8].ask("rollback"), [s[10].ask("update 1 2 z%d" % n) for n in range(150)][-1]])
     s[10].ask("rollback")
+    print([s[11].ask("insert 1 4 d"), s[11].ask("commit later"), s[12].ask("commit later"), store.ask("flush")])
 try:
     with Store("missing/store.rb") as store:
         store.ask("marks")
@@ -121,6 +123,7 @@ def client_answers(place):
         [["ok"], "ok", ["ok"], [(2, "row")]],
         [["ok"], ["ok"], ["waits 9"], ["ok"], ["committed 4"], ["cannot serialize 3 4", []]],
         [["ok"], ["ok"]],
+        [["ok"], ["numbered 5"], ["ok"], ["flushed 5"]],
     ]
     for found, right in zip(told, wanted):
         equal("replies", ast.literal_eval(found), right)
@@ -221,22 +224,29 @@ class Line:
 def hub_routes(place):
     """hub.py gives each connection a session, its own replies, and nothing of another one's"""
     file, path = place.store(log=256), str(place.folder / "hub")
+    with hub_at(path, place, file):
+        told = hub_dialogue(path)
+    equal("rows", rows(place, file, 1), {1: "b", 2: "n" * 80, 3: "f"})
+    equal("a file that is missing", said_status(place, place.folder / "none" / "x.rb", path), 3)
+    return told
+
+
+@contextlib.contextmanager
+def hub_at(path, place, file, program=None, status=0):
+    """A hub that serves at a path until the block is done. It ends with the status, and writes no error."""
     words = [sys.executable, str(EXAMPLES / "hub.py"), str(file), path]
-    hub = subprocess.Popen(words, env=environment(place), stderr=subprocess.PIPE)
+    hub = subprocess.Popen(words, env=environment(place, program), stderr=subprocess.PIPE)
     try:
         until = time.monotonic() + DEADLINE
         while not is_served(path):
             if hub.poll() is not None or time.monotonic() > until:
                 raise Wrong(f"no hub: {hub.communicate()[1]!r}")
             time.sleep(0.01)
-        told = hub_dialogue(path)
+        yield hub
     finally:
         hub.send_signal(signal.SIGTERM)
         errors = hub.communicate(timeout=DEADLINE)[1]
-    equal("how it ended", (hub.returncode, errors), (0, b""))
-    equal("rows", rows(place, file, 1), {1: "b", 2: "n" * 80, 3: "f"})
-    equal("a file that is missing", said_status(place, place.folder / "none" / "x.rb", path), 3)
-    return told
+    equal("how it ended", (hub.returncode, errors), (status, b""))
 
 
 def is_served(path):
@@ -299,6 +309,62 @@ def hub_dialogue(path):
     return "five kinds of lines, sixteen sessions"
 
 
+# A program over a slow device, which is killed in place of the first flush after a value `last`. It notes its lines.
+SLOW = """#!{python}
+import subprocess, sys, time
+run, last = subprocess.Popen([{program!r}, *sys.argv[1:]], stdin=subprocess.PIPE, bufsize=0), False
+with open({log!r}, "wb", 0) as log:
+    for line in sys.stdin.buffer:
+        log.write(line)
+        last = last or line.endswith(b" last\\n")
+        if line == b"flush\\n":
+            time.sleep(0.05)
+            if last:
+                run.kill()
+                break
+        run.stdin.write(line)
+run.stdin.close()
+sys.exit(run.wait() % 256)
+"""
+GROUP, ROUNDS = 8, 4
+
+
+def hub_groups(place):
+    """hub.py makes commits of several connections safe by one flush, and answers none of them before"""
+    file, path, log = place.store(log=256, blocks=64), str(place.folder / "hub"), place.folder / "lines"
+    double = place.double(SLOW.format(python=sys.executable, program=place.program, log=str(log)))
+    with hub_at(path, place, file, double, 256 - signal.SIGKILL) as hub:
+        lines = [Line(path) for _ in range(GROUP)]
+        equal("a commit that is alone", [lines[0].ask(line) for line in ("commit", "insert 1 0 a", "commit")],
+              [["ok"], ["ok"], ["committed 1"]])
+        equal("what the program got", log.read_text().replace("\n?\n", "\n").splitlines(),
+              ["commit 1 later", "insert 1 1 0 a", "commit 1 later", "flush"])
+        for first in range(1, ROUNDS * GROUP, GROUP):
+            commit_together(lines, first, "a")
+            equal("answers", sorted(line.next() for line in lines),
+                  sorted(f"committed {number + 1}" for number in range(first, first + GROUP)))
+            equal("their ends", [line.next() for line in lines], ["."] * GROUP)
+        # The program is killed in place of the flush of the last round, whose commits it has numbered: nobody is answered.
+        commit_together(lines, 1 + ROUNDS * GROUP, "last")
+        equal("after the kill", [line.next() for line in lines], [""] * GROUP)
+        hub.wait(DEADLINE)
+    for line in lines:
+        line.close()
+    commits, sent = 1 + ROUNDS * GROUP, log.read_text().split("\n")
+    equal("rows", rows(place, file, 1), {key: "a" for key in range(commits)})
+    if not sent.count("flush") < commits:
+        raise Wrong(f"{sent.count('flush')} flushes for {commits} commits")
+    return f"{commits} commits by {sent.count('flush') - 1} flushes, and the {GROUP} after them unanswered and gone"
+
+
+def commit_together(lines, first, value):
+    """Each connection inserts a row. Then all of them ask for their commits, before any answer is read."""
+    for key, line in enumerate(lines, first):
+        equal("an insert", line.ask(f"insert 1 {key} {value}"), ["ok"])
+    for line in lines:
+        line.send("commit\n")
+
+
 def readable(check):
     """The check, of which any text that isn't as it is to be is Wrong."""
 
@@ -312,7 +378,8 @@ def readable(check):
     return tried
 
 
-CHECKS = [readable(check) for check in [readme_lines, client_answers, seats_sold, book_reported, counter_counts, hub_routes]]
+CHECKS = [readable(check) for check in (readme_lines, client_answers, seats_sold, book_reported, counter_counts, hub_routes,
+                                        hub_groups)]
 
 
 class Place:
@@ -326,6 +393,13 @@ class Place:
         file = self.folder / name
         run([self.program, *rbsh.format_words(file, **shape)]).wants(0, b"")
         return file
+
+    def double(self, text):
+        """A program with this text."""
+        file = self.folder / "double"
+        file.write_text(text)
+        file.chmod(0o755)
+        return str(file)
 
 
 def main():

@@ -18,11 +18,13 @@ ID, KEY = (r"(0|[1-9]\d*)", 2**16 - 1), (r"(0|[1-9]\d*)", 2**64 - 1)
 COUNT, NAME, VALUE = (r"([1-9]\d*)", 10**6), (r"([a-z0-9_]{1,16})", None), (r"([!-~]+)", None)
 READ_COMMITTED, READ_ONLY, SERIALIZABLE = MODES = ["read-committed", "read-only", "serializable"]
 MODE = (f"({'|'.join(MODES)})", None)
+# When a commit is made last that isn't at once.
+LATER = ("(later)", None)
 COMMANDS = [
     ("insert", ID, ID, KEY, VALUE), ("update", ID, ID, KEY, VALUE), ("delete", ID, ID, KEY), ("lock", ID, ID, KEY),
     ("set", ID, MODE), ("savepoint", ID, NAME), ("rollback", ID, NAME), ("rollback", ID), ("commit", ID),
-    ("open", ID, NAME, ID, KEY, KEY), ("fetch", ID, NAME, COUNT), ("close", ID, NAME), ("cancel", ID),
-    ("marks",), ("checkpoint",),
+    ("commit", ID, LATER), ("open", ID, NAME, ID, KEY, KEY), ("fetch", ID, NAME, COUNT), ("close", ID, NAME),
+    ("cancel", ID), ("marks",), ("flush",), ("checkpoint",),
 ]
 WRITES = ["insert", "update", "delete", "lock"]
 FORMS = [(word, fields, re.compile(" ".join([word, *(pattern for pattern, _ in fields)]), re.ASCII))
@@ -302,12 +304,13 @@ class Model:
         self.numbers = {}
         # Of each row, the numbers of this run's commits that changed it, in order. (A lock changes nothing.)
         self.changers = {}
-        # The groups by which readers have cleaned a home.
-        self.cleanings = set()
+        # The groups by which readers have cleaned a home, and those of commits that were to be made last later.
+        self.cleanings, self.later = set(), set()
         # The copies that this run keeps, and how often each use was made of one in all runs.
         self.copies, self.uses = Copies(copies), collections.Counter()
-        # How many groups there were each time the head moved behind them; 0 is the head of a new file.
-        self.moves = [0]
+        # How many groups there were each time the head moved behind them, and each time they were made last; 0 is the
+        # head of a new file.
+        self.moves, self.lasts = [0], [0]
         self.restart(0, 0)
 
     def restart(self, groups, front):
@@ -317,10 +320,11 @@ class Model:
             self.homes.update(moment.before)
         del self.moments[groups + 1 :]
         left = self.moments[groups]
-        self.rows, self.number, self.durable = left.rows, left.number, groups
+        self.rows, self.number = left.rows, left.number
         # What the file has as it is opened; what puts back may move the head once more.
         self.opened, self.opened_front = groups, front
         self.moves = [move for move in self.moves if move <= front]
+        self.lasts = [*(last for last in self.lasts if last < groups), groups]
         self.sessions = {number: Session(number) for number in range(1, SESSIONS + 1)}
         # In order of arrival.
         self.queue = []
@@ -334,6 +338,7 @@ class Model:
             book.owners = [None] * SLOTS
         self.numbers = {transaction: n for transaction, n in self.numbers.items() if n <= self.number}
         self.cleanings = {group for group in self.cleanings if group <= groups}
+        self.later = {group for group in self.later if group <= groups}
         # In which order changes are put back is left open. The first such group stands for all of them.
         self.before = {home: entries for home, entries in self.homes.items() if any(map(self.runs, entries))}
         for home, entries in self.before.items():
@@ -352,9 +357,25 @@ class Model:
     def checkpoint(self):
         """What isn't durable yet is made so, what was put back among it, and the head moves. The end of the script does
         the same."""
-        self.durable = self.logged
+        self.flush()
         if self.front < self.logged:
             self.moves.append(self.logged)
+
+    def flush(self):
+        """All that was logged is made last, with the commits that wait for it. The head stays."""
+        self.lasts.append(self.logged)
+        return f"flushed {self.number}"
+
+    @property
+    def durable(self):
+        """How many groups last, whatever happens."""
+        return self.lasts[-1]
+
+    def waiting(self, groups):
+        """The groups of the commits among the first so many groups that nothing had made last before another group
+        came."""
+        last = max(last for last in self.lasts if last <= groups)
+        return [group for group in self.later if last < group <= groups]
 
     @property
     def front(self):
@@ -420,6 +441,8 @@ class Model:
         if word == "marks":
             marks = [(at, book.writes, book.lost) for at, book in enumerate(self.books)]
             return [b"segment %d writes %d lost %d" % told for told in marks]
+        if word == "flush":
+            return [self.flush().encode()]
         if word == "checkpoint":
             self.checkpoint()
             return [b"ok"]
@@ -546,7 +569,9 @@ class Model:
             if by > number:
                 raise Refused(f"cannot serialize {number} {by}")
 
-    def commit(self, session):
+    def commit(self, session, later=None):
+        """A commit: it lasts before its number is told, or is to be made last later. One of a transaction that has no
+        change makes nothing last."""
         if not session.changes:
             return self.end_without(session)
         segment, slot, _ = session.place
@@ -557,7 +582,10 @@ class Model:
             self.changers.setdefault(at, []).append(self.number)
         self.ended(session)
         self.grow()
-        self.durable = self.logged
+        if later:
+            self.later.add(self.logged)
+            return f"numbered {self.number}"
+        self.flush()
         return f"committed {self.number}"
 
     def end_without(self, session):

@@ -7,13 +7,13 @@ SESSIONS, TABLES = 16, 16
 NAME = b"abcdefghijklmnopqrstuvwxyz0123456789_"
 MODES = [b"read-committed", b"read-only", b"serializable"]
 
-# The parts of each command behind its word. A V takes all that is left of the line.
+# The parts of each command behind its word. A V takes all that is left of the line, and `later` is that word.
 COMMANDS = {
     b"insert": ["S", "T", "K", "V"],
     b"update": ["S", "T", "K", "V"],
     b"delete": ["S", "T", "K"],
     b"lock": ["S", "T", "K"],
-    b"commit": ["S"],
+    b"commit": ["S", "later"],
     b"set": ["S", "M"],
     b"savepoint": ["S", "P"],
     b"rollback": ["S", "P"],
@@ -22,11 +22,12 @@ COMMANDS = {
     b"fetch": ["S", "C", "N"],
     b"close": ["S", "C"],
     b"marks": [],
+    b"flush": [],
     b"checkpoint": [],
 }
 
 # The commands that may end before their last part.
-SHORTER = {b"rollback"}
+SHORTER = {b"commit", b"rollback"}
 
 # What each command does, and what stands for its parts, for who types them.
 DOES = {
@@ -34,7 +35,7 @@ DOES = {
     b"update": "gives a row another value",
     b"delete": "removes a row",
     b"lock": "keeps other sessions from writing a row until the transaction ends",
-    b"commit": "makes the session's changes durable, and ends its transaction",
+    b"commit": "makes the session's changes durable, and ends its transaction; with later they wait for a flush",
     b"set": "sets the mode of the session's transaction, before anything else in it",
     b"savepoint": "marks the place after the session's changes so far",
     b"rollback": "undoes the session's changes, and ends its transaction; with P those after the savepoint alone",
@@ -43,6 +44,7 @@ DOES = {
     b"fetch": "gives the next rows of a cursor",
     b"close": "closes a cursor",
     b"marks": "shows how much undo each rollback segment has made and given up",
+    b"flush": "makes all that waits durable, and tells the number of the last commit",
     b"checkpoint": "makes all durable, also what the next run undoes, brings all blocks home, and empties the log",
 }
 PARTS = {
@@ -51,6 +53,7 @@ PARTS = {
     "K": "the key, 0 to 2^64 - 1",
     "V": f"the value: 1 to {VALUE_BYTES} visible ASCII characters, without a space",
     "M": "the mode: " + ", ".join(mode.decode() for mode in MODES),
+    "later": "this word: a flush makes the changes durable, or another commit of changes, a checkpoint or the end",
     "P": f"the name of a savepoint: 1 to {NAME_BYTES} letters a to z, digits and _",
     "C": f"the name of a cursor: 1 to {NAME_BYTES} letters a to z, digits and _",
     "LO": "the lowest key of the range",
@@ -58,6 +61,8 @@ PARTS = {
     "N": f"how many rows at most, 1 to {COUNT}",
 }
 
+# The parts that are a word as it stands.
+WORDS = {"later"}
 NAMES = {"P": "the savepoint's name", "C": "the cursor's name"}
 NUMBERS = {
     "S": ("the session", 0, 2**16 - 1),
@@ -111,11 +116,17 @@ def value_fault(text):
     return None
 
 
+def word_part_fault(part, text):
+    return None if text == part.encode() else f"its last part is {shown(text)}: it is '{part}', or isn't there"
+
+
 def part_fault(part, text):
     if part in NAMES:
         return name_fault(text, NAMES[part])
     if part in NUMBERS:
         return number_fault(text, *NUMBERS[part])
+    if part in WORDS:
+        return word_part_fault(part, text)
     return mode_fault(text) if part == "M" else value_fault(text)
 
 
