@@ -15,7 +15,7 @@ import subprocess
 BUILT = pathlib.Path(__file__).resolve().parent.parent / "crates" / "rbsh" / "out" / "rbsh"
 PROGRAM = os.environ.get("RBSH") or str(BUILT)
 # The first words of all replies that refuse nothing.
-DONE = {"ok", "committed", "row", "end", "waits", "segment"}
+DONE = {"ok", "committed", "numbered", "flushed", "row", "end", "waits", "segment"}
 
 
 class Refused(Exception):

@@ -7,6 +7,8 @@ SOCKET is the path of a Unix socket that the hub makes. Each connection has a se
 sends lines without the session's number, as `insert 1 7 window`. It gets the replies without it, and then a line `.`.
 After `waits H` and that `.` it gets the reply to the same write alone, once H has ended. That may be `waits` again.
 The hub sends lines in the order in which they come. When a connection ends, what it didn't commit is rolled back.
+Commits that come together share a flush, and each is safe when it is answered `committed N`. Rows that a cursor shows
+may be of one that isn't yet. If the hub closes a connection in place of that answer, the next run shows what there is.
 SIGTERM and Ctrl-C end the hub, which ends with the program's status. examples/counter.py has clients of it."""
 import asyncio
 import contextlib
@@ -16,10 +18,14 @@ from asyncio.subprocess import PIPE
 
 from client import PROGRAM
 
+# The commands that name no session.
+ALONE = ("marks", "flush", "checkpoint")
+
 
 class Hub:
     def __init__(self, run):
         self.run, self.turn, self.free, self.writers = run, asyncio.Lock(), [str(n) for n in range(16, 0, -1)], {}
+        self.safe = 0  # Commits up to this number are durable.
 
     async def reply(self):
         reply = await self.run.stdout.readline()
@@ -27,22 +33,43 @@ class Hub:
             raise ConnectionError("the program has ended")
         return reply.decode().rstrip("\n")
 
-    async def ask(self, line, own=None):
-        """Sends a line, and a bad one whose `bad line` ends its replies. Each goes to the connection whose session it names,
-        and one that names none to `own`. Tasks get the lock in the order in which they ask for it."""
+    async def ask(self, line, session=None):
+        """The replies to a line. Tasks get their turn in the order in which they ask for it."""
         async with self.turn:
-            if self.run.stdin.is_closing():
-                raise ConnectionError("the hub ends")
-            self.run.stdin.write(f"{line}\n?\n".encode("latin-1"))
+            return await self.send(line, session)
+
+    async def send(self, line, session=None):
+        """Sends a line, and a bad one whose `bad line` ends its replies. Gives those that name this session or none, without
+        its number. Each other one goes to the connection whose session it names."""
+        if self.run.stdin.is_closing():
+            raise ConnectionError("the hub ends")
+        self.run.stdin.write(f"{line}\n?\n".encode("latin-1"))
+        own, reply = [], await self.reply()
+        while True:
+            to, _, words = reply.partition(" ")
+            if not to.isdigit():
+                own.append(reply)
+            elif to == session:
+                own.append(words)
+            elif to in self.writers:
+                self.writers[to].write(f"{words}\n".encode())
             reply = await self.reply()
-            while True:
-                session, _, words = reply.partition(" ")
-                to, text = (self.writers.get(session), words) if session.isdigit() else (own, reply)
-                if to:
-                    to.write(f"{text}\n".encode())
-                reply = await self.reply()
-                if reply == "bad line":
-                    return
+            if reply == "bad line":
+                return own
+
+    async def commit(self, session):
+        """The replies to a `commit`, by group commit: a `commit S later` makes it, and then it waits for its turn to `flush`.
+        A commit that is alone has it at once. While a flush goes on, others wait for a turn; the next flush serves those
+        that are made before it, and they find themselves safe in their turn. No commit is answered before."""
+        replies = await self.ask(f"commit {session} later", session)
+        word, _, number = replies[0].partition(" ")
+        if word != "numbered":
+            return replies
+        async with self.turn:
+            while self.safe < int(number):
+                flushed, = await self.send("flush")
+                self.safe = int(flushed.split(" ")[1])
+        return [f"committed {number}"]
 
     async def serve(self, reader, writer):
         """One connection, to its end."""
@@ -59,9 +86,13 @@ class Hub:
                 line = line.rstrip("\r\n")
                 word, *rest = line.split(" ", 1)
                 cursors.update(rest[0].split(" ")[:1] if word == "open" and rest else [])
-                if line and not line.startswith("#"):
-                    await self.ask(" ".join([word, *([] if word in ("marks", "checkpoint") else [session]), *rest]), writer)
-                writer.write(b".\n")
+                if line == "commit":
+                    replies = await self.commit(session)
+                elif line and not line.startswith("#"):
+                    replies = await self.ask(" ".join([word, *([] if word in ALONE else [session]), *rest]), session)
+                else:
+                    replies = []
+                writer.write("".join(f"{reply}\n" for reply in [*replies, "."]).encode())
                 await writer.drain()
         del self.writers[session]
         writer.close()
