@@ -1,7 +1,7 @@
 //! A copy of a block, and a change of it: of the copy, and the same as a patch of a group. Whatever changes a block by
 //! a group calls it.
 ghost use Rattle.std.specs.Prelude.{◌≡◌, ◌+◌, ◌<◌, ◌≤◌, [], ◌∷◌, ◌++◌};
-ghost use Rattle.std.specs.Prelude.{length, false, not, IfOk, OnOk};
+ghost use Rattle.std.specs.Prelude.{length, false, not, OnErr, OnOk};
 ghost use Rattle.std.specs.Result.{is_err};
 ghost use Rattle.rb_base.specs.Blocks.{block_of, shape_blocks, AreBlocks};
 ghost use Rattle.rb_base.specs.Fields.{overwritten};
@@ -14,19 +14,20 @@ use crate::ids::BlockNo;
 use crate::sizes::{BLOCK_HEAD, GROUP_BYTES, GROUP_PATCHES, UNIT};
 use crate::store::Store;
 
-/// A copy of block `no` of the store, which is loaded.
-pub fn copy_of<S: Store>(store: &mut S, no: BlockNo) -> Result<[u8; UNIT], Failed>
+/// Loads block `no` of the store, and copies it. Where the load fails the copy stays as it was.
+pub fn copy_block<S: Store>(store: &mut S, no: BlockNo, copy: &mut [u8]) -> Result<(), Failed>
     requires going { S.failed store.old ≡ false }
     requires there { no < shape_blocks (S.shape_of store.old) }
+    requires unit { length copy.old ≡ UNIT }
     ensures logs { Logs S.Store store.old store.new [] (not (is_err result)) }
-    ensures length { IfOk result (λ copy. length copy ≡ UNIT) }
-    ensures copy { S.tells → IfOk result (λ copy. copy ≡ block_of (S.blocks store.old) no) }
+    ensures length { length copy.new ≡ UNIT }
+    ensures copy { S.tells → OnOk result (copy.new ≡ block_of (S.blocks store.old) no) }
+    ensures same { OnErr result (copy.new ≡ copy.old) }
     ensures whole { S.tells → OnOk result (AreBlocks (S.shape_of store.old) (S.blocks store.old)) }
 {
     store.load(no)?;
-    let mut copy = [0; UNIT];
     copy.copy_from_slice(store.block());
-    Ok(copy)
+    Ok(())
 }
 
 /// Writes these bytes, one at least, over those from `at` on of a copy of block `no`, and puts the same as one patch at

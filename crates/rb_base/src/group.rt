@@ -65,6 +65,14 @@ impl Group {
         }
     }
 
+    /// Drops all patches. A group is used again so, since a new one is filled with zeros.
+    pub fn clear(&mut self)
+        ensures { self.new ≡ [] }
+    {
+        self.heads.clear();
+        self.bytes.clear();
+    }
+
     /// The same patches once more.
     pub fn copied(&self) -> Group
         ensures { result ≡ self.now }

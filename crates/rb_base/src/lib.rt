@@ -14,10 +14,11 @@ mod laws;
 mod shape;
 mod sizes;
 mod store;
+mod workspace;
 
 pub use addresses::{put_uba, uba_at};
 pub use bytes::array_of;
-pub use copy::{copy_of, set};
+pub use copy::{copy_block, set};
 pub use decimal::parse_decimal;
 pub use faults::{Failed, NoMemory, OpenFault};
 pub use fields::{put_u16, put_u32, put_u64, u16_at, u32_at, u64_at};
@@ -30,3 +31,4 @@ pub use sizes::{
     TOUCHED_AT, UNIT, VALUE_BYTES, WORN,
 };
 pub use store::Store;
+pub use workspace::Workspace;

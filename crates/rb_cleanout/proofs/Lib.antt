@@ -3,4 +3,3 @@ pub mod Copies
 pub mod Grouped
 pub mod Looking
 pub mod Plain
-pub mod Plans

@@ -1,6 +1,6 @@
 //! Cleans a copy of a block, or a block of a store. Writes of rows and later readers call it.
 ghost use Rattle.std.specs.Prelude.{◌≡◌, ◌≢◌, ◌+◌, ◌*◌, ◌^◌, ◌<◌, ◌≤◌};
-ghost use Rattle.std.specs.Prelude.{ℕ, true, false, not, List, [], length, IfNone, IfOk, IfSome, OnOk};
+ghost use Rattle.std.specs.Prelude.{ℕ, true, false, not, List, [], length, IfOk, OnOk};
 ghost use Rattle.std.specs.List.{AllByRecursion};
 ghost use Rattle.std.specs.Result.{is_err};
 ghost use Rattle.rb_base.specs.Blocks.{block_of, table_blocks, AreBlocks};
@@ -16,7 +16,7 @@ ghost use Rattle.rb_txntable.specs.declared.looks.Look.{Look};
 
 use crate::entries::clean_entries;
 use crate::locks::clear_locks;
-use rb_base::{BlockNo, Failed, GROUP_BYTES, GROUP_PATCHES, Group, Store, UNIT};
+use rb_base::{BlockNo, Failed, GROUP_BYTES, GROUP_PATCHES, Group, Store, UNIT, Workspace};
 use rb_cell::CELLS;
 use rb_itl::{ENTRIES, ENTRY_BYTES, OPEN, entry};
 
@@ -70,40 +70,41 @@ fn has_open(block: &[u8]) -> bool
     false
 }
 
-/// The group of patches that cleans block `no` of the store, which is one of rows; None where there is nothing to
-/// clean. The store is given no group. `Failed` only where a call of the store failed.
-pub fn plan_clean<S: Store>(store: &mut S, no: BlockNo) -> Result<Option<Group>, Failed>
+/// Makes the group of the workspace one that cleans block `no` of the store, which is one of rows, and answers true;
+/// false where there is nothing to clean, and the group is open then. The store is given no group. `Failed` only where
+/// a call of the store failed.
+pub fn plan_clean<S: Store>(
+    store: &mut S,
+    no: BlockNo,
+    workspace: &mut Workspace,
+) -> Result<bool, Failed>
     requires going { S.failed store.old ≡ false }
     requires there { no < table_blocks (S.shape_of store.old) }
     ensures logs { Logs S.Store store.old store.new [] (not (is_err result)) }
-    ensures some { IfOk result (λ plan. IfSome plan (IsPlan no)) }
-    ensures plans { S.tells → IfOk result (λ plan. IfSome plan (λ group.
-        PlansClean (look_of (S.shape_of store.old) (S.blocks store.old)) no group
-        (block_of (S.blocks store.old) no))) }
-    ensures none { S.tells → IfOk result (λ plan. IfNone plan
-        (cleaned_home (look_of (S.shape_of store.old) (S.blocks store.old)) (home_of (block_of (S.blocks store.old) no))
+    ensures some { IfOk result (λ planned. planned ≡ true → IsPlan no workspace.new.group) }
+    ensures plans { S.tells → IfOk result (λ planned. planned ≡ true
+        → PlansClean (look_of (S.shape_of store.old) (S.blocks store.old)) no workspace.new.group
+        (block_of (S.blocks store.old) no)) }
+    ensures none { S.tells → IfOk result (λ planned. planned ≡ false
+        → (cleaned_home (look_of (S.shape_of store.old) (S.blocks store.old)) (home_of (block_of (S.blocks store.old) no))
         ≡ home_of (block_of (S.blocks store.old) no))) }
     ensures whole { S.tells → OnOk result (AreBlocks (S.shape_of store.old) (S.blocks store.old)) }
 {
     store.load(no)?;
     // A fetch asks this for each row, so nothing is copied where nothing is Open.
     if !has_open(store.block()) {
-        return Ok(None);
+        return Ok(false);
     }
-    let mut copy = [0; UNIT];
-    copy.copy_from_slice(store.block());
-    let mut group = Group::new();
-    clean_copy(store, no, &mut copy, &mut group)?;
-    if group.patches() == 0 {
-        return Ok(None);
-    }
-    Ok(Some(group))
+    workspace.home.copy_from_slice(store.block());
+    workspace.group.clear();
+    clean_copy(store, no, &mut workspace.home, &mut workspace.group)?;
+    Ok(workspace.group.patches() > 0)
 }
 
 /// Cleans block `no` of the store, which is one of rows, by one group of patches, or by none where there is nothing to
-/// clean. What `group` held is dropped. `Failed` only where a call of the store failed. (That a block is cleaned by a
+/// clean. What the workspace has afterwards is open. `Failed` only where a call of the store failed. (That a block is cleaned by a
 /// later visitor and not by the commit is the delayed cleanout of Oracle7.)
-pub fn clean<S: Store>(store: &mut S, no: BlockNo, group: &mut Group) -> Result<(), Failed>
+pub fn clean<S: Store>(store: &mut S, no: BlockNo, workspace: &mut Workspace) -> Result<(), Failed>
     requires going { S.failed store.old ≡ false }
     requires there { no < table_blocks (S.shape_of store.old) }
     requires few { S.lsn store.old < 2 ^ 62 }
@@ -117,9 +118,8 @@ pub fn clean<S: Store>(store: &mut S, no: BlockNo, group: &mut Group) -> Result<
     ensures others { S.tells → OnOk result ((b : ℕ) → b ≢ no
         → block_of (S.blocks store.new) b ≡ block_of (S.blocks store.old) b) }
 {
-    let Some(plan) = plan_clean(store, no)? else {
+    if !plan_clean(store, no, workspace)? {
         return Ok(());
-    };
-    *group = plan;
-    store.apply(group)
+    }
+    store.apply(&workspace.group)
 }

@@ -6,7 +6,7 @@ ghost use Rattle.rb_model.specs.Rows.{last_scn};
 ghost use Rattle.rb_model.specs.State.{State};
 
 use crate::memory::Memory;
-use rb_base::{Scn, Shape, Store};
+use rb_base::{Scn, Shape, Store, Workspace};
 use rb_cr::Scratch;
 use std::marker::Model;
 
@@ -16,6 +16,7 @@ use std::marker::Model;
 pub struct Engine<T: Store> {
     pub(crate) memory: Memory,
     pub(crate) scratch: Scratch,
+    pub(crate) workspace: Box<Workspace>,
     pub(crate) store: T,
 }
 
@@ -52,6 +53,7 @@ impl<T: Store> Engine<T> {
         let Engine {
             memory: _,
             scratch: _,
+            workspace: _,
             store,
         } = self;
         store

@@ -17,7 +17,7 @@ use crate::checks::check_session;
 use crate::engine::Engine;
 use crate::memory::Memory;
 use crate::scan::next_row;
-use rb_base::Store;
+use rb_base::{Store, Workspace};
 use rb_cr::{CrFault, Scratch};
 use rb_model::{Fetched, Name, Refusal, Row};
 
@@ -28,6 +28,7 @@ pub fn do_fetch<T: Store>(
     memory: &mut Memory,
     scratch: &mut Scratch,
     store: &mut T,
+    workspace: &mut Workspace,
     s: u16,
     name: &Name,
     row: &mut Row,
@@ -57,7 +58,7 @@ pub fn do_fetch<T: Store>(
     let Some(cursor) = memory.sessions.cursor(s, name) else {
         return Err(Refusal::NoCursor);
     };
-    match next_row(store, scratch, &mut memory.copies, &cursor, row) {
+    match next_row(store, workspace, scratch, &mut memory.copies, &cursor, row) {
         Ok(Fetched::Row) => {
             memory.sessions.took(s, name, row.key);
             Ok(Fetched::Row)
@@ -100,6 +101,7 @@ impl<T: Store> Engine<T> {
             &mut self.memory,
             &mut self.scratch,
             &mut self.store,
+            &mut self.workspace,
             s,
             name,
             row,

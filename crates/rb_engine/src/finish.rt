@@ -24,7 +24,7 @@ ghost use Rattle.law_write.specs.Verdict.{IsOwnId};
 use crate::checks::check_session;
 use crate::engine::Engine;
 use crate::memory::Memory;
-use rb_base::{Failed, Group, SLOTS, Scn, Store, Xid};
+use rb_base::{Failed, SLOTS, Scn, Store, Workspace, Xid};
 use rb_model::Refusal;
 use rb_sessions::SESSIONS;
 use rb_steps::{back_step, commit_step, end_step};
@@ -39,7 +39,13 @@ pub enum Lasting {
 }
 
 /// Gives the store the group of a commit, and makes all groups last if that is to be at once.
-fn give_commit<T: Store>(store: &mut T, xid: Xid, scn: Scn, lasting: Lasting) -> Result<(), Failed>
+fn give_commit<T: Store>(
+    store: &mut T,
+    workspace: &mut Workspace,
+    xid: Xid,
+    scn: Scn,
+    lasting: Lasting,
+) -> Result<(), Failed>
     requires going { T.failed store.old ≡ false }
     requires there { xid.seg < (T.shape_of store.old).segments }
     requires slot { xid.slot < SLOTS }
@@ -55,20 +61,19 @@ fn give_commit<T: Store>(store: &mut T, xid: Xid, scn: Scn, lasting: Lasting) ->
     ensures failed { T.failed store.new ≡ is_err result }
     ensures counted { IsCounted (T.faults store.old) (T.faults store.new) result }
 {
-    let mut group = Group::new();
-    commit_step(store, xid, scn, &mut group)?;
+    commit_step(store, xid, scn, workspace)?;
     match lasting {
         Lasting::AtOnce => store.flush(),
         Lasting::Later => Ok(()),
     }
 }
 
-/// Puts back so many changes of a transaction, its newest first. Each group is made in `group`.
+/// Puts back so many changes of a transaction, its newest first.
 pub fn put_back<T: Store>(
     store: &mut T,
+    workspace: &mut Workspace,
     xid: Xid,
     count: u32,
-    group: &mut Group,
 ) -> Result<(), Failed>
     requires going { T.failed store.old ≡ false }
     requires there { xid.seg < (T.shape_of store.old).segments }
@@ -87,13 +92,18 @@ pub fn put_back<T: Store>(
     ensures counted { IsCounted (T.faults store.old) (T.faults store.new) result }
 {
     for _change in 0..count {
-        back_step(store, xid, group)?;
+        back_step(store, xid, workspace)?;
     }
     Ok(())
 }
 
 /// Puts back so many changes of a transaction, its newest first, and ends its table slot.
-fn put_all_back<T: Store>(store: &mut T, xid: Xid, count: u32) -> Result<(), Failed>
+fn put_all_back<T: Store>(
+    store: &mut T,
+    workspace: &mut Workspace,
+    xid: Xid,
+    count: u32,
+) -> Result<(), Failed>
     requires going { T.failed store.old ≡ false }
     requires there { xid.seg < (T.shape_of store.old).segments }
     requires slot { xid.slot < SLOTS }
@@ -109,15 +119,15 @@ fn put_all_back<T: Store>(store: &mut T, xid: Xid, count: u32) -> Result<(), Fai
     ensures failed { T.failed store.new ≡ is_err result }
     ensures counted { IsCounted (T.faults store.old) (T.faults store.new) result }
 {
-    let mut group = Group::new();
-    put_back(store, xid, count, &mut group)?;
-    end_step(store, xid, &mut group)
+    put_back(store, workspace, xid, count)?;
+    end_step(store, xid, workspace)
 }
 
 /// Commits a session's changes, of which there are some.
 fn commit_changes<T: Store>(
     memory: &mut Memory,
     store: &mut T,
+    workspace: &mut Workspace,
     s: u16,
     xid: Xid,
     lasting: Lasting,
@@ -145,7 +155,7 @@ fn commit_changes<T: Store>(
     ensures disk { IsCountedAs (T.faults store.old) (T.faults store.new) (err_is is_disk_fault result) }
 {
     let scn = memory.scn.saturating_add(1);
-    match give_commit(store, xid, scn, lasting) {
+    match give_commit(store, workspace, xid, scn, lasting) {
         Ok(()) => {
             memory.sessions.commit(s);
             memory.waits.free(s);
@@ -160,6 +170,7 @@ fn commit_changes<T: Store>(
 fn end_without_changes<T: Store>(
     memory: &mut Memory,
     store: &mut T,
+    workspace: &mut Workspace,
     s: u16,
     xid: Xid,
 ) -> Result<Option<u64>, Refusal>
@@ -183,7 +194,7 @@ fn end_without_changes<T: Store>(
     ensures same { SameStore T.Store store.old store.new }
     ensures disk { IsCountedAs (T.faults store.old) (T.faults store.new) (err_is is_disk_fault result) }
 {
-    match put_all_back(store, xid, 0) {
+    match put_all_back(store, workspace, xid, 0) {
         Ok(()) => {}
         Err(_) => return Err(memory.fail()),
     }
@@ -196,6 +207,7 @@ fn end_without_changes<T: Store>(
 fn roll_back_changes<T: Store>(
     memory: &mut Memory,
     store: &mut T,
+    workspace: &mut Workspace,
     s: u16,
     xid: Xid,
 ) -> Result<(), Refusal>
@@ -216,7 +228,7 @@ fn roll_back_changes<T: Store>(
     ensures disk { IsCountedAs (T.faults store.old) (T.faults store.new) (err_is is_disk_fault result) }
 {
     let count = memory.sessions.session(s).length;
-    match put_all_back(store, xid, count) {
+    match put_all_back(store, workspace, xid, count) {
         Ok(()) => {
             memory.sessions.rollback(s);
             memory.waits.free(s);
@@ -230,6 +242,7 @@ fn roll_back_changes<T: Store>(
 pub fn do_commit<T: Store>(
     memory: &mut Memory,
     store: &mut T,
+    workspace: &mut Workspace,
     s: u16,
     lasting: Lasting,
 ) -> Result<Option<u64>, Refusal>
@@ -253,9 +266,11 @@ pub fn do_commit<T: Store>(
     check_session(memory, s)?;
     let session = memory.sessions.session(s);
     match session.own {
-        Some(xid) if session.length > 0 => commit_changes(memory, store, s, xid, lasting),
+        Some(xid) if session.length > 0 => commit_changes(
+            memory, store, workspace, s, xid, lasting,
+        ),
         // A rollback to a savepoint may have left the slot alone.
-        Some(xid) => end_without_changes(memory, store, s, xid),
+        Some(xid) => end_without_changes(memory, store, workspace, s, xid),
         None => {
             memory.sessions.commit(s);
             memory.waits.free(s);
@@ -265,7 +280,12 @@ pub fn do_commit<T: Store>(
 }
 
 /// Puts the session's changes back, closes the cursors that saw them, and ends the transaction.
-pub fn do_rollback<T: Store>(memory: &mut Memory, store: &mut T, s: u16) -> Result<(), Refusal>
+pub fn do_rollback<T: Store>(
+    memory: &mut Memory,
+    store: &mut T,
+    workspace: &mut Workspace,
+    s: u16,
+) -> Result<(), Refusal>
     requires step { IsInStep T.Store memory.old store.old }
     ensures step { IsInStep T.Store memory.new store.new }
     ensures did { (h : State) → Stands T.Store h (record { memory = memory.old; store = store.old })
@@ -280,7 +300,7 @@ pub fn do_rollback<T: Store>(memory: &mut Memory, store: &mut T, s: u16) -> Resu
 {
     check_session(memory, s)?;
     match memory.sessions.session(s).own {
-        Some(xid) => roll_back_changes(memory, store, s, xid),
+        Some(xid) => roll_back_changes(memory, store, workspace, s, xid),
         None => {
             memory.sessions.rollback(s);
             memory.waits.free(s);
@@ -306,7 +326,13 @@ impl<T: Store> Engine<T> {
         ensures disk { IsCountedAs (T.faults self.old.store) (T.faults self.new.store)
             (err_is is_disk_fault result) }
     {
-        do_commit(&mut self.memory, &mut self.store, s, Lasting::AtOnce)
+        do_commit(
+            &mut self.memory,
+            &mut self.store,
+            &mut self.workspace,
+            s,
+            Lasting::AtOnce,
+        )
     }
 
     /// Makes the session's changes one more commit, which all sessions see at once. It lasts for certain once a later
@@ -326,7 +352,13 @@ impl<T: Store> Engine<T> {
         ensures disk { IsCountedAs (T.faults self.old.store) (T.faults self.new.store)
             (err_is is_disk_fault result) }
     {
-        do_commit(&mut self.memory, &mut self.store, s, Lasting::Later)
+        do_commit(
+            &mut self.memory,
+            &mut self.store,
+            &mut self.workspace,
+            s,
+            Lasting::Later,
+        )
     }
 
     /// Puts back all changes of the session's transaction, one by one, closes the cursors that saw them, and ends it.
@@ -342,6 +374,6 @@ impl<T: Store> Engine<T> {
         ensures disk { IsCountedAs (T.faults self.old.store) (T.faults self.new.store)
             (err_is is_disk_fault result) }
     {
-        do_rollback(&mut self.memory, &mut self.store, s)
+        do_rollback(&mut self.memory, &mut self.store, &mut self.workspace, s)
     }
 }

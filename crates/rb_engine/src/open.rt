@@ -14,7 +14,7 @@ ghost use Rattle.rb_sound.specs.Sound.{AreSound};
 
 use crate::engine::Engine;
 use crate::memory::Memory;
-use rb_base::{Failed, OpenFault, Store};
+use rb_base::{Failed, NoMemory, OpenFault, Store, Workspace};
 use rb_copies::{COPIES, Copies};
 use rb_cr::Scratch;
 use rb_recovery::open_blocks;
@@ -55,7 +55,11 @@ fn new_memory<T: Store>(store: &mut T, copies: Copies) -> Result<Memory, Failed>
 }
 
 /// What `Engine::open` does with a store: the memory of the engine over it.
-fn open_memory<T: Store>(store: &mut T, copies: Copies) -> Result<Memory, OpenFault>
+fn open_memory<T: Store>(
+    store: &mut T,
+    workspace: &mut Workspace,
+    copies: Copies,
+) -> Result<Memory, OpenFault>
     requires empty { copies.kept ≡ [] }
     requires going { T.failed store.old ≡ false }
     requires few { T.lsn store.old ≤ 2 ^ 61 + 4096 }
@@ -77,16 +81,28 @@ fn open_memory<T: Store>(store: &mut T, copies: Copies) -> Result<Memory, OpenFa
     ensures counted { IsCountedAs (T.faults store.old) (T.faults store.new) (err_is is_failed result) }
 {
     let memory = new_memory(store, copies)?;
-    open_blocks(store)?;
+    open_blocks(store, workspace)?;
     Ok(memory)
 }
 
-/// The engine over a store that can be opened, with that room for homes that are rebuilt, and that table of kept ones.
-fn open_with<T: Store>(
+/// Room for homes that are rebuilt, and for what steps make.
+#[derive(Drop)]
+struct Room {
     scratch: Scratch,
-    copies: Copies,
-    store: T,
-) -> Result<Engine<T>, (OpenFault, T)>
+    workspace: Box<Workspace>,
+}
+
+/// Takes that room; `NoMemory` where there is none.
+fn take_room(alloc: Global) -> Result<Room, NoMemory> {
+    let scratch = Scratch::new(alloc)?;
+    let Ok(workspace) = Box::new(alloc, Workspace::new()) else {
+        return Err(NoMemory);
+    };
+    Ok(Room { scratch, workspace })
+}
+
+/// The engine over a store that can be opened, with that room, and that table of kept homes.
+fn open_with<T: Store>(room: Room, copies: Copies, store: T) -> Result<Engine<T>, (OpenFault, T)>
     requires empty { copies.kept ≡ [] }
     requires going { T.failed store ≡ false }
     requires few { T.lsn store ≤ 2 ^ 61 + 4096 }
@@ -107,11 +123,16 @@ fn open_with<T: Store>(
     ensures counted_ok { IfOk result (λ e. T.faults e.store ≡ T.faults store) }
     ensures counted_err { IfErr result (λ r. IsCountedAs (T.faults store) (T.faults r.1) (is_failed r.0)) }
 {
+    let Room {
+        scratch,
+        mut workspace,
+    } = room;
     let mut store = store;
-    match open_memory(&mut store, copies) {
+    match open_memory(&mut store, &mut workspace, copies) {
         Ok(memory) => Ok(Engine {
             memory,
             scratch,
+            workspace,
             store,
         }),
         Err(fault) => Err((fault, store)),
@@ -142,8 +163,8 @@ impl<T: Store> Engine<T> {
         ensures counted_ok { IfOk result (λ e. T.faults e.store ≡ T.faults store) }
         ensures counted_err { IfErr result (λ r. IsCountedAs (T.faults store) (T.faults r.1) (is_failed r.0)) }
     {
-        match Scratch::new(alloc) {
-            Ok(scratch) => open_with(scratch, new_copies(alloc), store),
+        match take_room(alloc) {
+            Ok(room) => open_with(room, new_copies(alloc), store),
             Err(_) => Err((OpenFault::NoMemory, store)),
         }
     }

@@ -12,7 +12,7 @@ ghost use Rattle.rb_sessions.specs.declared.sessions.TheConstants.{SESSIONS};
 use crate::engine::Engine;
 use crate::memory::Memory;
 use crate::write::do_write;
-use rb_base::Store;
+use rb_base::{Store, Workspace};
 use rb_cr::Scratch;
 use rb_model::{Refusal, Wrote};
 
@@ -23,6 +23,7 @@ pub fn do_resume<T: Store>(
     memory: &mut Memory,
     scratch: &mut Scratch,
     store: &mut T,
+    workspace: &mut Workspace,
 ) -> Option<(u16, Result<Wrote, Refusal>)>
     requires step { IsInStep T.Store memory.old store.old }
     ensures step { IsInStep T.Store memory.new store.new }
@@ -54,6 +55,7 @@ pub fn do_resume<T: Store>(
         memory,
         scratch,
         store,
+        workspace,
         s,
         pending.table,
         pending.key,
@@ -82,6 +84,11 @@ impl<T: Store> Engine<T> {
         ensures same { SameStore T.Store self.old.store self.new.store }
         ensures disk { IsCountedAs (T.faults self.old.store) (T.faults self.new.store) (resume_fault result) }
     {
-        do_resume(&mut self.memory, &mut self.scratch, &mut self.store)
+        do_resume(
+            &mut self.memory,
+            &mut self.scratch,
+            &mut self.store,
+            &mut self.workspace,
+        )
     }
 }

@@ -15,7 +15,7 @@ use crate::checks::check_session;
 use crate::engine::Engine;
 use crate::finish::put_back;
 use crate::memory::Memory;
-use rb_base::{Group, Store, Xid};
+use rb_base::{Store, Workspace, Xid};
 use rb_model::{Name, Refusal};
 use rb_sessions::{SAVEPOINTS, SESSIONS};
 
@@ -46,6 +46,7 @@ pub fn do_savepoint<T: Store>(
 fn roll_back_later<T: Store>(
     memory: &mut Memory,
     store: &mut T,
+    workspace: &mut Workspace,
     s: u16,
     xid: Xid,
     name: &Name,
@@ -71,7 +72,7 @@ fn roll_back_later<T: Store>(
     ensures disk { IsCountedAs (T.faults store.old) (T.faults store.new) (err_is is_disk_fault result) }
 {
     let count = memory.sessions.session(s).length.saturating_sub(kept);
-    match put_back(store, xid, count, &mut Group::new()) {
+    match put_back(store, workspace, xid, count) {
         Ok(()) => {
             memory.sessions.rollback_to(s, name);
             Ok(())
@@ -85,6 +86,7 @@ fn roll_back_later<T: Store>(
 pub fn do_rollback_to<T: Store>(
     memory: &mut Memory,
     store: &mut T,
+    workspace: &mut Workspace,
     s: u16,
     name: &Name,
 ) -> Result<(), Refusal>
@@ -106,7 +108,7 @@ pub fn do_rollback_to<T: Store>(
         return Err(Refusal::NoSavepoint);
     };
     match memory.sessions.session(s).own {
-        Some(xid) => roll_back_later(memory, store, s, xid, name, kept),
+        Some(xid) => roll_back_later(memory, store, workspace, s, xid, name, kept),
         None => {
             memory.sessions.rollback_to(s, name);
             Ok(())
@@ -146,6 +148,12 @@ impl<T: Store> Engine<T> {
         ensures disk { IsCountedAs (T.faults self.old.store) (T.faults self.new.store)
             (err_is is_disk_fault result) }
     {
-        do_rollback_to(&mut self.memory, &mut self.store, s, name)
+        do_rollback_to(
+            &mut self.memory,
+            &mut self.store,
+            &mut self.workspace,
+            s,
+            name,
+        )
     }
 }

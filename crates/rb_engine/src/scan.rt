@@ -15,7 +15,7 @@ ghost use Rattle.rb_model.specs.State.{State};
 ghost use Rattle.law_copies.specs.Copies.{CopiesStand};
 ghost use Rattle.law_sessions.specs.Scan.{IsAskedKey};
 
-use rb_base::Store;
+use rb_base::{Store, Workspace};
 use rb_copies::Copies;
 use rb_cr::{CrFault, Scratch, Snapshot, Wanted, next_at};
 use rb_model::{Fetched, Row};
@@ -100,6 +100,7 @@ fn is_asked(cursor: &Cursor, blocks: u32, g: u32) -> bool
 /// help of the homes that are kept.
 fn next_in<S: Store>(
     store: &mut S,
+    workspace: &mut Workspace,
     scratch: &mut Scratch,
     copies: &mut Copies,
     cursor: &Cursor,
@@ -138,7 +139,7 @@ fn next_in<S: Store>(
         return Ok(false);
     }
     let block = (u32::from(cursor.table) - 1) * blocks + g;
-    if clean_step(store, block).is_err() {
+    if clean_step(store, block, workspace).is_err() {
         return Err(CrFault::Failed);
     }
     let snapshot = Snapshot {
@@ -159,6 +160,7 @@ fn next_in<S: Store>(
 /// the log isn't worn out.
 pub fn next_row<S: Store>(
     store: &mut S,
+    workspace: &mut Workspace,
     scratch: &mut Scratch,
     copies: &mut Copies,
     cursor: &Cursor,
@@ -187,7 +189,7 @@ pub fn next_row<S: Store>(
     let first = first_home(cursor, blocks);
     let end = end_home(cursor, blocks);
     for g in first..end {
-        match next_in(store, scratch, copies, cursor, g, first, row) {
+        match next_in(store, workspace, scratch, copies, cursor, g, first, row) {
             Err(fault) => return Err(fault),
             Ok(true) => return Ok(Fetched::Row),
             Ok(false) => {}

@@ -24,7 +24,7 @@ use crate::engine::Engine;
 use crate::late::check_late;
 use crate::memory::Memory;
 use crate::queue::wait_for;
-use rb_base::{Group, Store};
+use rb_base::{Store, Workspace};
 use rb_cr::Scratch;
 use rb_model::{Op, Refusal, Wrote};
 use rb_sessions::Pending;
@@ -78,11 +78,12 @@ fn other_holder<T: Store>(
 
 /// Inserts, updates or deletes the row of a key, or holds it as it is. Where another session holds the key, this one
 /// waits for it. It may be refused, and then nothing is changed. The tests that come before the write only load blocks,
-/// and leave memory as it is, unless a call of the store failed. What `scratch` holds afterwards is open.
+/// and leave memory as it is, unless a call of the store failed. What `scratch` and `workspace` hold afterwards is open.
 pub fn do_write<T: Store>(
     memory: &mut Memory,
     scratch: &mut Scratch,
     store: &mut T,
+    workspace: &mut Workspace,
     s: u16,
     table: u16,
     key: u64,
@@ -118,8 +119,7 @@ pub fn do_write<T: Store>(
         key,
         op,
     };
-    let mut group = Group::new();
-    match write_step(store, &ask, &mut group) {
+    match write_step(store, &ask, workspace) {
         Ok(xid) => {
             memory.sessions.wrote(s, xid);
             Ok(Wrote::Done)
@@ -156,6 +156,7 @@ impl<T: Store> Engine<T> {
             &mut self.memory,
             &mut self.scratch,
             &mut self.store,
+            &mut self.workspace,
             s,
             table,
             key,
@@ -185,6 +186,7 @@ impl<T: Store> Engine<T> {
             &mut self.memory,
             &mut self.scratch,
             &mut self.store,
+            &mut self.workspace,
             s,
             table,
             key,

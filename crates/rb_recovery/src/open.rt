@@ -15,7 +15,7 @@ ghost use Rattle.rb_sound.specs.Sound.{AreSound};
 ghost use Rattle.law_blocks.specs.Standing.{SoundAs, logged_of};
 ghost use Rattle.law_blocks.specs.States.{BlocksStand};
 
-use rb_base::{OpenFault, Store};
+use rb_base::{OpenFault, Store, Workspace};
 use rb_restart::roll_back_all;
 use rb_sound::blocks_sound;
 
@@ -23,7 +23,7 @@ use rb_sound::blocks_sound;
 /// and then no transaction runs. Blocks that the program left then stand for the machine's first state, with the books
 /// that their headers told before. It may be stopped at any moment and begun again. NotAStore exactly where the blocks
 /// aren't in order, and then nothing is done; `Failed` only where a call of the store failed.
-pub fn open_blocks<S: Store>(store: &mut S) -> Result<(), OpenFault>
+pub fn open_blocks<S: Store>(store: &mut S, workspace: &mut Workspace) -> Result<(), OpenFault>
     requires going { S.failed store.old ≡ false }
     requires few { S.lsn store.old ≤ 2 ^ 61 + 4096 }
     ensures none { S.tells → IsErrOf result OpenFault.NotAStore
@@ -52,6 +52,6 @@ pub fn open_blocks<S: Store>(store: &mut S) -> Result<(), OpenFault>
     if !blocks_sound(store)? {
         return Err(OpenFault::NotAStore);
     }
-    roll_back_all(store)?;
+    roll_back_all(store, workspace)?;
     Ok(())
 }

@@ -7,7 +7,7 @@ ghost use Rattle.rb_restart.specs.Steps.{HasLive, IsIdle, Rolls};
 ghost use Rattle.rb_segment.specs.Calls.{Runs};
 ghost use Rattle.rb_segment.specs.Header.{header_of, slot_in};
 
-use rb_base::{Failed, Group, SLOTS, Shape, Store, UNIT, Xid, copy_of};
+use rb_base::{Failed, SLOTS, Shape, Store, UNIT, Workspace, Xid, copy_block};
 use rb_segment::end;
 use rb_txntable::running;
 
@@ -21,13 +21,13 @@ pub fn is_rolled_back(header: &[u8], xid: Xid) -> bool
     matches!(running(header, xid), Some(slot) if slot.live == 0)
 }
 
-/// Ends the slot of a transaction that runs and has no live change, by one group. What `group` held is dropped. Nothing
-/// is done where that isn't so, in a damaged file alone.
+/// Ends the slot of a transaction that runs and has no live change, by one group. What the workspace
+/// has is open. Nothing is done where that isn't so, in a damaged file alone.
 pub fn end_slot<S: Store>(
     store: &mut S,
     shape: Shape,
     xid: Xid,
-    group: &mut Group,
+    workspace: &mut Workspace,
 ) -> Result<(), Failed>
     requires going { S.failed store.old ≡ false }
     requires shape { shape ≡ S.shape_of store.old }
@@ -38,11 +38,12 @@ pub fn end_slot<S: Store>(
     ensures { Rolls S.Store shape store.old store.new 1 (not (is_err result))
         (λ now. HasLive shape (S.blocks store.old) xid 0 → IsIdle shape now (16 * xid.seg + xid.slot)) }
 {
-    let mut header = copy_of(store, shape.header_block(xid.seg))?;
-    if !is_rolled_back(&header, xid) {
+    let header = &mut workspace.header;
+    copy_block(store, shape.header_block(xid.seg), header)?;
+    if !is_rolled_back(header, xid) {
         return Ok(());
     }
-    *group = Group::new();
-    end(&mut header, &shape, xid, group);
-    store.apply(group)
+    workspace.group.clear();
+    end(header, &shape, xid, &mut workspace.group);
+    store.apply(&workspace.group)
 }

@@ -12,7 +12,7 @@ ghost use Rattle.law_blocks.specs.Standing.{SoundAs, logged_of};
 
 use crate::ending::end_slot;
 use crate::transaction::roll_back;
-use rb_base::{ACTIVE, Failed, Group, SLOTS, Shape, Store, Xid};
+use rb_base::{ACTIVE, Failed, SLOTS, Shape, Store, Workspace, Xid};
 use rb_txntable::slot_at;
 
 /// Puts back the transaction of table slot `i` of segment `seg`, if one runs, and ends the slot.
@@ -21,7 +21,7 @@ fn roll_back_slot<S: Store>(
     shape: Shape,
     seg: u16,
     i: u16,
-    group: &mut Group,
+    workspace: &mut Workspace,
 ) -> Result<(), Failed>
     requires going { S.failed store.old ≡ false }
     requires shape { shape ≡ S.shape_of store.old }
@@ -42,8 +42,8 @@ fn roll_back_slot<S: Store>(
         slot: i,
         wrap: slot.wrap,
     };
-    roll_back(store, shape, xid, slot.live, group)?;
-    end_slot(store, shape, xid, group)
+    roll_back(store, shape, xid, slot.live, workspace)?;
+    end_slot(store, shape, xid, workspace)
 }
 
 /// Puts back the transactions of segment `seg` that run, slot by slot.
@@ -51,7 +51,7 @@ fn roll_back_segment<S: Store>(
     store: &mut S,
     shape: Shape,
     seg: u16,
-    group: &mut Group,
+    workspace: &mut Workspace,
 ) -> Result<(), Failed>
     requires going { S.failed store.old ≡ false }
     requires shape { shape ≡ S.shape_of store.old }
@@ -62,7 +62,7 @@ fn roll_back_segment<S: Store>(
         (λ now. (i : ℕ) → i < SLOTS → IsIdle shape now (16 * seg + i)) }
 {
     for i in 0..SLOTS as u16 {
-        roll_back_slot(store, shape, seg, i, group)?;
+        roll_back_slot(store, shape, seg, i, workspace)?;
     }
     Ok(())
 }
@@ -71,7 +71,7 @@ fn roll_back_segment<S: Store>(
 /// slot: one group for each change and one for each slot. It may be stopped at any moment and begun again. In a damaged
 /// file it does what it can. `Failed` only where a call of the store failed. (Oracle7 Server Concepts, *Database
 /// Recovery*: rolling back after rolling forward.)
-pub fn roll_back_all<S: Store>(store: &mut S) -> Result<(), Failed>
+pub fn roll_back_all<S: Store>(store: &mut S, workspace: &mut Workspace) -> Result<(), Failed>
     requires going { S.failed store.old ≡ false }
     requires few { S.lsn store.old ≤ 2 ^ 61 + 2 ^ 60 }
     ensures rolled_back { (groups : List (List Patch))
@@ -84,9 +84,8 @@ pub fn roll_back_all<S: Store>(store: &mut S) -> Result<(), Failed>
         × OnOk result (RolledBack (S.shape_of store.old) groups (S.blocks store.old) (S.blocks store.new))) }
 {
     let shape = store.shape();
-    let mut group = Group::new();
     for seg in 0..shape.segments {
-        roll_back_segment(store, shape, seg, &mut group)?;
+        roll_back_segment(store, shape, seg, workspace)?;
     }
     Ok(())
 }

@@ -6,7 +6,7 @@ ghost use Rattle.rb_base.specs.Blocks.{IsShape};
 ghost use Rattle.rb_model.specs.Rows.{TableRow};
 ghost use Rattle.rb_restart.specs.Steps.{HasLive, MayRoll, Rolls};
 
-use rb_base::{Failed, Group, SLOTS, Shape, Store, Xid};
+use rb_base::{Failed, SLOTS, Shape, Store, Workspace, Xid};
 use rb_undo::back;
 
 /// Puts back the newest live change of a transaction, and answers whether it did. It does where the transaction runs
@@ -15,7 +15,7 @@ fn put_back<S: Store>(
     store: &mut S,
     shape: Shape,
     xid: Xid,
-    group: &mut Group,
+    workspace: &mut Workspace,
 ) -> Result<bool, Failed>
     requires going { S.failed store.old ≡ false }
     requires shape { shape ≡ S.shape_of store.old }
@@ -31,7 +31,7 @@ fn put_back<S: Store>(
         → MayRoll shape number rows (S.lsn store.old) (S.blocks store.old) → IfOk result (λ done. done ≡ true) }
 {
     let logged = store.logged();
-    back(store, xid, group)?;
+    back(store, xid, workspace)?;
     Ok(store.logged() > logged)
 }
 
@@ -42,7 +42,7 @@ pub fn roll_back<S: Store>(
     shape: Shape,
     xid: Xid,
     live: u32,
-    group: &mut Group,
+    workspace: &mut Workspace,
 ) -> Result<(), Failed>
     requires going { S.failed store.old ≡ false }
     requires shape { shape ≡ S.shape_of store.old }
@@ -54,7 +54,7 @@ pub fn roll_back<S: Store>(
         (λ now. HasLive shape (S.blocks store.old) xid live → HasLive shape now xid 0) }
 {
     for _change in 0..live {
-        if !put_back(store, shape, xid, group)? {
+        if !put_back(store, shape, xid, workspace)? {
             return Ok(());
         }
     }

@@ -9,7 +9,7 @@ ghost use Rattle.rb_sound.specs.Active.{AreActive, Chain, Fits, HasBegun, IsActi
 
 use crate::home::{Limits, cell_sound, entry_sound};
 use rb_base::{
-    ACTIVE, Failed, SEGMENT_BLOCKS, SLOTS, Shape, Store, UNIT, Uba, VALUE_BYTES, Xid, copy_of,
+    ACTIVE, Failed, SEGMENT_BLOCKS, SLOTS, Shape, Store, UNIT, Uba, VALUE_BYTES, Xid, copy_block,
     u16_at,
 };
 use rb_cell::{CELLS, cell_from};
@@ -241,7 +241,8 @@ fn slots_sound<S: Store>(
         → (slot_in (segment_of shape (S.blocks store.old) g).header i).state ≡ ACTIVE
         → IsActive (Fits limits.now) shape g (segment_of shape (S.blocks store.old) g) i)) }
 {
-    let header = copy_of(store, shape.header_block(g))?;
+    let mut header = [0; UNIT];
+    copy_block(store, shape.header_block(g), &mut header)?;
     for i in 0..SLOTS as u8 {
         if !slot_sound(store, shape, g, &header, i, limits)? {
             return Ok(false);

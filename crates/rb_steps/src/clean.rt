@@ -13,13 +13,17 @@ ghost use Rattle.law_crash.specs.Made.{CleanMade, GivesAny};
 ghost use Rattle.rb_model.specs.State.{State};
 ghost use Rattle.law_blocks.specs.Standing.{env_of};
 
-use rb_base::{BlockNo, Failed, Store, WORN};
+use rb_base::{BlockNo, Failed, Store, WORN, Workspace};
 use rb_cleanout::plan_clean;
 
 /// Cleans block `no`, which is one of rows, of the transactions that have ended: by one group, which waits, or
 /// by none where there is nothing to clean, or where the log is worn out. That is asked first, as each block of such a
 /// file is still read. `Failed` only where a call of the store failed.
-pub fn clean_step<S: Store>(store: &mut S, no: BlockNo) -> Result<(), Failed>
+pub fn clean_step<S: Store>(
+    store: &mut S,
+    no: BlockNo,
+    workspace: &mut Workspace,
+) -> Result<(), Failed>
     requires going { S.failed store.old ≡ false }
     requires there { no < table_blocks (S.shape_of store.old) }
     ensures logs { (groups : List (List Patch))
@@ -36,8 +40,8 @@ pub fn clean_step<S: Store>(store: &mut S, no: BlockNo) -> Result<(), Failed>
     if store.logged() >= WORN {
         return Ok(());
     }
-    let Some(plan) = plan_clean(store, no)? else {
+    if !plan_clean(store, no, workspace)? {
         return Ok(());
-    };
-    store.apply(&plan)
+    }
+    store.apply(&workspace.group)
 }

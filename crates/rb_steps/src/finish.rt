@@ -15,7 +15,7 @@ ghost use Rattle.rb_segment.specs.Header.{header_of, slot_in};
 ghost use Rattle.law_blocks.specs.Standing.{logged_of};
 ghost use Rattle.law_blocks.specs.States.{BlocksStand};
 
-use rb_base::{Failed, Group, SLOTS, Scn, Store, UNIT, Xid, copy_of};
+use rb_base::{Failed, SLOTS, Scn, Store, UNIT, Workspace, Xid, copy_block};
 use rb_restart::is_rolled_back;
 use rb_segment::{commit, end};
 use rb_txntable::running;
@@ -30,13 +30,13 @@ fn has_live(header: &[u8], xid: Xid) -> bool
     matches!(running(header, xid), Some(slot) if slot.live != 0)
 }
 
-/// Commits the transaction at `scn` by one group, which waits. What `group` held is dropped. Nothing is done
-/// where the transaction doesn't run or has no live change. `Failed` only where a call of the store failed.
+/// Commits the transaction at `scn` by one group, which waits. What the workspace has afterwards is open. Nothing
+/// is done where the transaction doesn't run or has no live change. `Failed` only where a call of the store failed.
 pub fn commit_step<S: Store>(
     store: &mut S,
     xid: Xid,
     scn: Scn,
-    group: &mut Group,
+    workspace: &mut Workspace,
 ) -> Result<(), Failed>
     requires going { S.failed store.old ≡ false }
     requires there { xid.seg < (S.shape_of store.old).segments }
@@ -55,20 +55,22 @@ pub fn commit_step<S: Store>(
         → OnOk result (Logs S.Store store.old store.new [] true) }
 {
     let shape = store.shape();
-    let mut header = copy_of(store, shape.header_block(xid.seg))?;
-    if !has_live(&header, xid) {
+    let header = &mut workspace.header;
+    copy_block(store, shape.header_block(xid.seg), header)?;
+    if !has_live(header, xid) {
         return Ok(());
     }
-    *group = Group::new();
-    commit(&mut header, &shape, xid, scn, group);
+    let group = &mut workspace.group;
+    group.clear();
+    commit(header, &shape, xid, scn, group);
     // For the proof: what a group holds is a group of patches.
     let _count = group.patches();
     store.apply(group)
 }
 
-/// Ends the slot of the transaction by one group. What `group` held is dropped. Nothing is done where the transaction
+/// Ends the slot of the transaction by one group. What the workspace has afterwards is open. Nothing is done where the transaction
 /// doesn't run or has a live change. `Failed` only where a call of the store failed.
-pub fn end_step<S: Store>(store: &mut S, xid: Xid, group: &mut Group) -> Result<(), Failed>
+pub fn end_step<S: Store>(store: &mut S, xid: Xid, workspace: &mut Workspace) -> Result<(), Failed>
     requires going { S.failed store.old ≡ false }
     requires there { xid.seg < (S.shape_of store.old).segments }
     requires slot { xid.slot < SLOTS }
@@ -86,12 +88,14 @@ pub fn end_step<S: Store>(store: &mut S, xid: Xid, group: &mut Group) -> Result<
         → OnOk result (Logs S.Store store.old store.new [] true) }
 {
     let shape = store.shape();
-    let mut header = copy_of(store, shape.header_block(xid.seg))?;
-    if !is_rolled_back(&header, xid) {
+    let header = &mut workspace.header;
+    copy_block(store, shape.header_block(xid.seg), header)?;
+    if !is_rolled_back(header, xid) {
         return Ok(());
     }
-    *group = Group::new();
-    end(&mut header, &shape, xid, group);
+    let group = &mut workspace.group;
+    group.clear();
+    end(header, &shape, xid, group);
     // For the proof: what a group holds is a group of patches.
     let _count = group.patches();
     store.apply(group)

@@ -13,18 +13,18 @@ ghost use Rattle.law_blocks.specs.Standing.{logged_of};
 ghost use Rattle.rb_model.specs.Answers.{action_by};
 ghost use Rattle.rb_steps.specs.Steps.{refusal_of, IsAbout, MayWrite};
 
-use rb_base::{Group, SLOTS, Store, WORN, Xid};
+use rb_base::{SLOTS, Store, WORN, Workspace, Xid};
 use rb_write::{Ask, AttemptFault, attempt};
 
 /// Writes a key of a table for a session, whose transaction has the id that is asked with, if it has a table slot. The
 /// answer is the transaction's id, or why nothing is written. `Failed` only where a call of the store failed. What
-/// `group` holds afterwards is open. No other session holds the key, and no commit above the snapshot of a serializable
+/// the workspace has afterwards is open. No other session holds the key, and no commit above the snapshot of a serializable
 /// transaction has changed the row. It is `attempt`, and what it adds is its contract, which speaks of the machine's
 /// state: a write that is done is the machine's next state, and a refusal its first test that applies.
 pub fn write_step<S: Store>(
     store: &mut S,
     ask: &Ask<'_>,
-    group: &mut Group,
+    workspace: &mut Workspace,
 ) -> Result<Xid, AttemptFault>
     requires going { S.failed store.old ≡ false }
     requires table { (1 ≤ ask.now.table) × (ask.now.table ≤ (S.shape_of store.old).tables) }
@@ -55,5 +55,5 @@ pub fn write_step<S: Store>(
     ensures unchanged { has_failed result ≡ false → OnErr result (Logs S.Store store.old store.new [] true) }
     ensures numbers { OnOk result (S.lsn store.old < WORN) }
 {
-    attempt(store, ask, group)
+    attempt(store, ask, workspace)
 }

@@ -1,5 +1,5 @@
 -- The loop over the patches of a group, over any cache.
-use Rattle.std.proofs.Common.{◌≡◌, ◌≢◌, ◌⊎◌, inl, inr, ⊎_elim, ℕ, ◌+◌, ◌^◌, ◌<◌, ◌==◌, Bool, true, false, if◌then◌else◌, nat_lt, List, [], ◌∷◌, ◌++◌, length, take, get_or, arith, ap, sym, ◌∙◌, subst, refl, append-nil}
+use Rattle.std.proofs.Common.{◌≡◌, ◌≢◌, ◌⊎◌, inl, inr, ⊎_elim, ℕ, ◌+◌, ◌^◌, ◌<◌, ◌==◌, Bool, true, false, if◌then◌else◌, nat_lt, List, [], ◌∷◌, ◌++◌, length, take, get_or, arith, ap, sym, ◌∙◌, subst, refl, append-nil, zero, suc}
 use Rattle.std.proofs.lemmas.Bool.{cases_eq, eq-eqb, ne_eqb}
 use Rattle.std.proofs.lemmas.List.{take_all, take_more}
 use Rattle.rb_base.specs.Groups.{Patch}
@@ -31,6 +31,16 @@ step_none n k g x none = by (nat_lt _ n)
 
 pub step_twice : (n k : ℕ) (g : List Patch) (x : List ℕ) → n < 2 ^ 63 → step n g k (step n g k x) ≡ step n g k x
 step_twice n k g x few = rolled_again k n (g ∷ []) x (omega (arith, few))
+
+or_there : (a b : Bool) → b ≡ true → (if a then true else b) ≡ true
+or_there true b is = refl
+or_there false b is = is
+
+-- a patch of a block is among patches
+pub has_at : (block : ℕ) (g : List Patch) (j : ℕ) (q : Patch) → j < length g → (get_or g j q).block ≡ block → has_block block g ≡ true
+has_at block [] j q lt is = absurd (omega arith)
+has_at block (p ∷ g) zero q lt is = rw (eq-eqb p.block block is) refl
+has_at block (p ∷ g) (suc j) q lt is = or_there (p.block == block) (has_block block g) (has_at block g j q (omega arith) is)
 
 -- what waited after two calls, one after the other
 pub waits_joined : (s t u : CachedState) → StaysOrNone s t → StaysOrNone t u → StaysOrNone s u
@@ -186,6 +196,23 @@ module _ {D : Type 0} (d : Ghosts D) where
             ∙ others which below differ
             ∙ ap (λ (l : Layout). seen l (d.content mid) t.held which) k.layout ∙ so_far.seen which there
             ∙ sym (rw has refl)
+
+    -- a patch of a block that has the group already
+    pub patched_again : (p : Patch) → p ≡ get_or g i p → i < length g → has_block p.block (take i g) ≡ true → HasPatched d s t old mid n g (i + 1)
+    patched_again p at lt has = record {
+      seen = λ which there. so_far.seen which there
+          ∙ ap (λ (a : Bool). if a then step n g which (seen s.layout (d.content old) s.held which) else seen s.layout (d.content old) s.held which) (sym (same which));
+      settled = so_far.settled;
+      done = so_far.done;
+      any_moment = so_far.any_moment;
+    }
+      where
+        by : (which : ℕ) → (which ≡ p.block) ⊎ (which ≡ p.block → ⊥) → (if p.block == which then true else has_block which (take i g)) ≡ has_block which (take i g)
+        by which (inl is) = rw (eq-eqb p.block which (sym is)) (sym (subst (λ (w : ℕ). has_block w (take i g) ≡ true) (sym is) has))
+        by which (inr differ) = rw (ne_eqb p.block which (λ e. differ (sym e))) refl
+
+        same : (which : ℕ) → has_block which (take (i + 1) g) ≡ has_block which (take i g)
+        same which = ap (has_block which) (take_more g i p lt ∙ ap (λ (q : Patch). take i g ++ q ∷ []) (sym at)) ∙ has_more which (take i g) p ∙ by which (cases_eq which p.block)
 
     -- at the end each block has the group
     pub all_patched : i ≡ length g → (which : ℕ) → which < block_count s.layout → seen s.layout (d.content mid) t.held which ≡ step n g which (seen s.layout (d.content old) s.held which)

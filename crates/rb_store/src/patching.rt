@@ -1,10 +1,10 @@
 //! Patches the blocks of a group in a cache. The store's `apply` calls it, and its opening for each group of the log.
-ghost use Rattle.std.specs.Prelude.{◌≡◌, ℕ, ◌<◌, ◌^◌, List, [], length, OnOk};
+ghost use Rattle.std.specs.Prelude.{◌≡◌, ℕ, ◌<◌, ◌^◌, List, [], length, take, slice_index_or, true, OnOk};
 ghost use Rattle.rb_base.specs.Blocks.{AreWithin};
 ghost use Rattle.rb_base.specs.Counts.{IsCounted};
 ghost use Rattle.rb_base.specs.Groups.{Patch};
 ghost use Rattle.rb_layout.specs.Regions.{block_count, shape_of};
-ghost use Rattle.law_redo.specs.Rolled.{step};
+ghost use Rattle.law_redo.specs.Rolled.{has_block, step};
 ghost use Rattle.rb_cache.specs.Frames.{seen, AreClean};
 ghost use Rattle.rb_cache.specs.OnDisk.{IsCalm};
 ghost use Rattle.rb_log.specs.GroupSlots.{GroupsAre};
@@ -14,6 +14,22 @@ ghost use Rattle.rb_store.specs.CachedFiles.{FlushesFull, Settled, StaysOrNone};
 use crate::cached_file::CachedFile;
 use rb_base::{Failed, Group, Lsn};
 use rb_disk::Disk;
+
+/// Whether a patch before that of place `i` is of the same block. A block that is patched gets all its patches at once,
+/// so it need not be found again for the others.
+fn is_patched_before(group: &Group, i: u32) -> bool
+    requires { i < length group.now }
+    ensures { result ≡ true → (d : Patch)
+        → has_block (slice_index_or group.now i d).block (take i group.now) ≡ true }
+{
+    let block = group.patch_block(i);
+    for earlier in 0..i {
+        if group.patch_block(earlier) == block {
+            return true;
+        }
+    }
+    false
+}
 
 /// Patches each block of the group, where its log number is below the group's. What comes home on the way is a block as
 /// it was, or with the group.
@@ -50,6 +66,9 @@ pub fn patch_all<D: Disk>(
     ensures counted { IsCounted (D.faults disk.old) (D.faults disk.new) result }
 {
     for i in 0..group.patches() {
+        if is_patched_before(group, i) {
+            continue;
+        }
         cache.patch(disk, group.patch_block(i), group, number)?;
     }
     Ok(())

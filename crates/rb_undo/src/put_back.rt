@@ -7,18 +7,18 @@ ghost use Rattle.rb_base.specs.Logs.{Logs};
 ghost use Rattle.rb_undo.specs.Backs.{back_patches, header_for, newest_record, ArePutBack, CanBack, TakesBack};
 
 use crate::find::newest;
-use rb_base::{Failed, Group, SLOTS, Store, Xid, copy_of};
+use rb_base::{Failed, SLOTS, Store, Workspace, Xid, copy_block};
 use rb_cell::cell_from;
 use rb_heap::change;
 use rb_itl::entry_from;
 use rb_segment::take_back;
 
 /// Puts back the newest live change of a transaction, by one group: the cell and the slot entry of its block become
-/// what the change's undo record kept, and the transaction has one live record less. What `group` held is dropped.
+/// what the change's undo record kept, and the transaction has one live record less. What the workspace has is open.
 /// Nothing is done where the transaction doesn't run or has no live change, and where no record of the change is found,
 /// as in a damaged file. `Failed` only where a call of the store failed. (Oracle7 Server Concepts, *Rollback Segments*:
 /// how a transaction is rolled back.)
-pub fn back<S: Store>(store: &mut S, xid: Xid, group: &mut Group) -> Result<(), Failed>
+pub fn back<S: Store>(store: &mut S, xid: Xid, workspace: &mut Workspace) -> Result<(), Failed>
     requires going { S.failed store.old ≡ false }
     requires there { xid.seg < (S.shape_of store.old).segments }
     requires slot { xid.slot < SLOTS }
@@ -38,14 +38,15 @@ pub fn back<S: Store>(store: &mut S, xid: Xid, group: &mut Group) -> Result<(), 
         → OnOk result (Logs S.Store store.old store.new [] true) }
 {
     let shape = store.shape();
-    let mut header = copy_of(store, shape.header_block(xid.seg))?;
-    let Some(undo) = newest(store, &shape, &header, xid)? else {
+    copy_block(store, shape.header_block(xid.seg), &mut workspace.header)?;
+    let Some(undo) = newest(store, &shape, &workspace.header, xid)? else {
         return Ok(());
     };
-    *group = Group::new();
+    let group = &mut workspace.group;
+    group.clear();
     let cell = cell_from(&undo.cell_before);
     let entry = entry_from(&undo.entry_before);
     change(group, undo.home, undo.cell, &cell, undo.entry, &entry);
-    take_back(&mut header, &shape, xid, undo.previous, group);
+    take_back(&mut workspace.header, &shape, xid, undo.previous, group);
     store.apply(group)
 }

@@ -18,14 +18,18 @@ use crate::ask::{Ask, AttemptFault};
 use crate::home::{Place, cell_for, clean_home};
 use crate::segment::writer;
 use crate::undo::put_change;
-use rb_base::{Group, SLOTS, Store, UNIT, WORN, Xid};
+use rb_base::{SLOTS, Store, WORN, Workspace, Xid};
 use rb_heap::choose;
 
 /// Puts the write that is asked for into the group, or refuses to. The store is given no group by it, and only loads
 /// blocks. The key is looked for once more here: who holds it was asked of its block as it is (`holder_of`), since a
 /// write that waits for another transaction, or comes too late, leaves no group and so cleans nothing, while this one
 /// is made in the cleaned block.
-fn prepare<S: Store>(store: &mut S, ask: &Ask<'_>, group: &mut Group) -> Result<Xid, AttemptFault>
+fn prepare<S: Store>(
+    store: &mut S,
+    ask: &Ask<'_>,
+    workspace: &mut Workspace,
+) -> Result<Xid, AttemptFault>
     requires going { S.failed store.old ≡ false }
     requires table { (1 ≤ ask.now.table) × (ask.now.table ≤ (S.shape_of store.old).tables) }
     requires short { IsShort ask.now.op }
@@ -33,11 +37,11 @@ fn prepare<S: Store>(store: &mut S, ask: &Ask<'_>, group: &mut Group) -> Result<
         → (x.seg < (S.shape_of store.old).segments) × (x.slot < SLOTS) }
     ensures logs { Logs S.Store store.old store.new [] (not (has_failed result)) }
     ensures there { IfOk result (λ x. (x.seg < (S.shape_of store.old).segments) × (x.slot < SLOTS)) }
-    ensures some { OnOk result (0 < length group.new) }
-    ensures within { OnOk result (AreWithin (S.shape_of store.old) group.new) }
+    ensures some { OnOk result (0 < length workspace.new.group) }
+    ensures within { OnOk result (AreWithin (S.shape_of store.old) workspace.new.group) }
     ensures made { S.tells → AreYoung (S.shape_of store.old) (S.blocks store.old)
         → IfOk result (IsMade (S.shape_of store.old) (S.blocks store.old)
-        (after_group (logged_of (S.shape_of store.old) (S.blocks store.old) + 1) group.new (S.blocks store.old))
+        (after_group (logged_of (S.shape_of store.old) (S.blocks store.old) + 1) workspace.new.group (S.blocks store.old))
         ask.now) }
     ensures takes { S.tells → AreYoung (S.shape_of store.old) (S.blocks store.old)
         → OnOk result (TakesWrite (home_for (S.shape_of store.old) (S.blocks store.old) ask.now)
@@ -49,17 +53,20 @@ fn prepare<S: Store>(store: &mut S, ask: &Ask<'_>, group: &mut Group) -> Result<
 {
     let shape = store.shape();
     let block = shape.home_block(ask.table, ask.key);
-    let mut home = [0; UNIT];
-    *group = Group::new();
-    clean_home(store, block, &mut home, group)?;
-    let cell = cell_for(&home, ask)?;
-    let mut header = [0; UNIT];
-    let xid = writer(store, ask.own, &mut header, group)?;
-    let Some(entry) = choose(&home, xid) else {
+    let Workspace {
+        group,
+        home,
+        header,
+    } = workspace;
+    group.clear();
+    clean_home(store, block, home, group)?;
+    let cell = cell_for(home, ask)?;
+    let xid = writer(store, ask.own, header, group)?;
+    let Some(entry) = choose(home, xid) else {
         return Err(AttemptFault::SlotsFull);
     };
     let place = Place { block, entry, cell };
-    put_change(&home, &mut header, &shape, ask, xid, place, group)?;
+    put_change(home, header, &shape, ask, xid, place, group)?;
     if store.logged() >= WORN {
         return Err(AttemptFault::WornOut);
     }
@@ -69,13 +76,13 @@ fn prepare<S: Store>(store: &mut S, ask: &Ask<'_>, group: &mut Group) -> Result<
 /// Writes a key of a table by one group, or refuses to and logs none. The transaction runs, or takes a table slot of
 /// the segment with the fewest that run. Its block is cleaned; the change takes a slot entry and a cell of it, and what
 /// they were is kept in an undo record. The tests come in this order: whether the key has a row, a cell for an insert,
-/// an entry, room for the record, and the log's numbers. `Failed` only where a call of the store failed. What `group`
-/// holds afterwards is open. In a damaged file, where the transaction doesn't run or no table slot is idle, it is
+/// an entry, room for the record, and the log's numbers. `Failed` only where a call of the store failed. What the
+/// workspace has afterwards is open. In a damaged file, where the transaction doesn't run or no table slot is idle, it is
 /// `RollbackFull`. The key is no other transaction's. (Oracle7 Server Concepts, *Rollback Segments*.)
 pub fn attempt<S: Store>(
     store: &mut S,
     ask: &Ask<'_>,
-    group: &mut Group,
+    workspace: &mut Workspace,
 ) -> Result<Xid, AttemptFault>
     requires going { S.failed store.old ≡ false }
     requires table { (1 ≤ ask.now.table) × (ask.now.table ≤ (S.shape_of store.old).tables) }
@@ -109,7 +116,7 @@ pub fn attempt<S: Store>(
         ask.now.key x ready (S.lsn store.old)) }
     ensures numbers { OnOk result (S.lsn store.old < WORN) }
 {
-    let xid = prepare(store, ask, group)?;
-    store.apply(group)?;
+    let xid = prepare(store, ask, workspace)?;
+    store.apply(&workspace.group)?;
     Ok(xid)
 }

@@ -16,6 +16,9 @@ fn decimals(rt: HostRuntime) {
         (b"-1", None),
         (b"1 ", None),
         (b"18446744073709551616", None),
+        (b"18446744073709551620", None),
+        (b"99999999999999999999", None),
+        (b"1a", None),
         (b"\xff", None),
     ];
     for (text, number) in rows {
@@ -44,6 +47,10 @@ fn one_group(rt: HostRuntime) {
     let patches: [(u32, usize, &[u8]); 2] = [(7, 32, b"ab"), (u32::MAX, 2047, b"c")];
     assert!(rt; are_patches(&group, &patches));
     assert!(rt; are_patches(&group.copied(), &patches));
+    group.clear();
+    assert!(rt; are_patches(&group, &[]));
+    group.push(7, 33, b"d");
+    assert!(rt; are_patches(&group, &[(7, 33, b"d")]));
 }
 
 #[test]

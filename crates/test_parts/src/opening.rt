@@ -1,7 +1,7 @@
 //! An opening over a store in memory: what is under way is put back, and blocks that aren't in order are refused.
 use crate::sound::{SHAPE, patch, running};
 use crate::writers::copy_of;
-use rb_base::{OpenFault, Store};
+use rb_base::{OpenFault, Store, Workspace};
 use rb_plainstore::PlainStore;
 use rb_recovery::open_blocks;
 use rb_txntable::{ENDED, slot_at};
@@ -12,7 +12,7 @@ fn open(store: &mut PlainStore) -> Result<(), OpenFault> {
     if store.logged() > 1_000_000 {
         return Err(OpenFault::Failed);
     }
-    open_blocks(store)
+    open_blocks(store, &mut Workspace::new())
 }
 
 // Two groups put back the two changes, and one more ends the slot, 15 of segment 1, whose header is block 43.

@@ -2,7 +2,7 @@
 //! and an opening rolls back those that haven't.
 use crate::segment::live_of;
 use crate::writers::{SHAPE, Writers, copy_of};
-use rb_base::{Failed, Group, Lsn, Store, Uba};
+use rb_base::{Failed, Lsn, Store, Uba, Workspace};
 use rb_cell::{CELLS, EMPTY, cells, front};
 use rb_cleanout::clean;
 use rb_itl::{BOUND, ENTRIES, EXACT, Entry, OPEN, entry};
@@ -25,7 +25,7 @@ fn put_back(writers: &mut Writers, s: u16) -> Result<Option<u32>, Failed> {
     }
     store.load(header)?;
     match live_of(store.block(), xid) {
-        Some(live) if live > 0 => back(store, xid, &mut Group::new())?,
+        Some(live) if live > 0 => back(store, xid, &mut Workspace::new())?,
         _ => return Err(Failed),
     }
     Ok(live_of(&copy_of(store, header)?, xid))
@@ -37,7 +37,7 @@ fn cleaned(store: &mut PlainStore) -> Result<Lsn, Failed> {
     if !there || store.logged() > 1_000_000 {
         return Err(Failed);
     }
-    clean(store, 0, &mut Group::new())?;
+    clean(store, 0, &mut Workspace::new())?;
     Ok(store.logged())
 }
 
@@ -46,7 +46,7 @@ fn rolled_back(store: &mut PlainStore) -> Result<Lsn, Failed> {
     if store.logged() > 1_000_000 {
         return Err(Failed);
     }
-    roll_back_all(store)?;
+    roll_back_all(store, &mut Workspace::new())?;
     Ok(store.logged())
 }
 

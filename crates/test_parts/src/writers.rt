@@ -6,7 +6,9 @@ ghost use Rattle.std.specs.List.{AllByRecursion};
 ghost use Rattle.rb_base.specs.Blocks.{IsShape};
 
 use crate::segment::live_of;
-use rb_base::{BlockNo, Failed, Group, NoMemory, SLOTS, Scn, Shape, Store, UNIT, VALUE_BYTES, Xid};
+use rb_base::{
+    BlockNo, Failed, Group, NoMemory, SLOTS, Scn, Shape, Store, UNIT, VALUE_BYTES, Workspace, Xid,
+};
 use rb_model::Op;
 use rb_plainstore::PlainStore;
 use rb_script::{Command, Request, parse};
@@ -123,7 +125,7 @@ impl Writers {
             key,
             op,
         };
-        let xid = attempt(&mut self.store, &ask, &mut Group::new())?;
+        let xid = attempt(&mut self.store, &ask, &mut Workspace::new())?;
         self.ids[s as usize] = Some(xid);
         self.runs[s as usize] = true;
         Ok(xid)

@@ -1,33 +1,45 @@
--- Each early None is for a text that begins as no decimal does, and the rest is `parse`.
-use Rattle.std.proofs.Common.{arith}
-use Rattle.rb_base.proofs.Decimals.{IsPlain, text_is_plain, text_is_utf8, parsed_option}
+use Rattle.std.proofs.Common.{◌≡◌, ◌<◌, length, get_or, arith, ap, ◌∙◌, below_more}
+use Rattle.std.specs.Str.Parse.{digits_value}
+use Rattle.std.proofs.lemmas.Grind.{common_steps}
+use Rattle.std.proofs.lemmas.Int.Digits.{digits_value_more}
+use Rattle.std.proofs.lemmas.List.{take_all}
+use Rattle.rb_base.proofs.Decimals.{some_digit, no_leading_zero, digit_of, front_fits, digits_are}
 use Rattle.rb_base.proofs.decimal.parse_decimal.Goals as goal
+use Rattle.rb_base.proofs.decimal.parse_decimal.Goals.{then-is_empty-via-then-is_empty, then-is_empty-via-else-is_empty+then-has_leading_zero}
 
-begins : (c : goal.After-ok) → IsPlain c.args.text.now
-begins c = record { some = omega arith; no_plus = c.if-first-eq43.false; no_zero = λ z. omega arith }
+pub returns-then-is_empty-clause-none : goal.returns-then-is_empty-clause-none
+returns-then-is_empty-clause-none c = λ n small e.
+    let some = some_digit c.args.text.now n small e in
+    let plain = no_leading_zero c.args.text.now n small e in
+    elim c.then-is_empty.branch [
+      | then-is_empty-via-then-is_empty w ↦ grind (arith, common_steps, some, w.if-is_empty)
+      | then-is_empty-via-else-is_empty+then-has_leading_zero w ↦ grind (arith, common_steps, plain, w.has_leading_zero.ensures, w.if-has_leading_zero)
+    ]
 
-pub returns-in_default-clause-none : goal.returns-in_default-clause-none
-returns-in_default-clause-none c = λ n small e.
-    let plain = text_is_plain c.args.text.now n small e in omega arith
+pub returns-in_err-value-clause-none : goal.returns-in_err-value-clause-none
+returns-in_err-value-clause-none c = rw c.from_residual.ensures (λ n small e.
+    let i = c.loop-byte.byte-index in
+    let text = c.args.text.now in
+    let below : i < length text = omega arith in
+    let full = c.in_err-value.ensures.none (digit_of text n i small e below) in
+    let fits = front_fits text n i small e below in
+    omega (arith, full, fits, c.loop-byte.invariant.sum))
 
-pub returns-then-first-eq43-clause-none : goal.returns-then-first-eq43-clause-none
-returns-then-first-eq43-clause-none c = λ n small e.
-    (text_is_plain c.args.text.now n small e).no_plus c.if-first-eq43.true
-
-pub returns-then-text-gt1-clause-none : goal.returns-then-text-gt1-clause-none
-returns-then-text-gt1-clause-none c = λ n small e.
-    let one = (text_is_plain c.args.text.now n small e).no_zero c.if-first-eq48.true in omega arith
-
-pub returns-in_default-from_utf8-clause-none : goal.returns-in_default-from_utf8-clause-none
-returns-in_default-from_utf8-clause-none c = λ n small e.
-    c.in_default-from_utf8.ensures.cases.0 (text_is_utf8 c.args.text.now n small e)
+pub loop-byte-preserved : goal.loop-byte-preserved
+loop-byte-preserved c =
+    let i = c.loop-byte.byte-index in
+    let h = c.in_ok-value.ensures.digit in
+    record {
+      digits = below_more _ _ c.loop-byte.invariant.digits h.0;
+      small = c.in_ok-value.ensures.fits;
+      sum = omega (arith, h.1, digits_value_more 10 c.args.text.now i (omega arith), c.loop-byte.invariant.sum);
+    }
 
 pub returns-clause-found : goal.returns-clause-found
 returns-clause-found c =
-    (parsed_option c.args.text.now c.in-Ok.digits.now c.parse.result c.ok.result (begins c)
-    c.in-Ok.ensures.cases.0 c.parse.ensures.value.0 c.ok.ensures.value).0
-
-pub returns-clause-none : goal.returns-clause-none
-returns-clause-none c =
-    (parsed_option c.args.text.now c.in-Ok.digits.now c.parse.result c.ok.result (begins c)
-    c.in-Ok.ensures.cases.0 c.parse.ensures.value.0 c.ok.ensures.value).1
+    let text = c.args.text.now in
+    let some : 0 < length text = grind (arith, common_steps) in
+    let plain : get_or text 0 0 ≡ 48 → length text ≡ 1 = λ z. grind (arith, common_steps, c.has_leading_zero.ensures, c.if-has_leading_zero) in
+    digits_are text c.loop-byte.value c.loop-byte.invariant.small some plain
+    (λ k below. c.loop-byte.invariant.digits k (omega arith))
+    (c.loop-byte.invariant.sum ∙ ap (digits_value 10) (take_all c.loop-byte.byte-index text (omega arith)))

@@ -8,12 +8,6 @@ returns-in_err-clean_copy-clause-logs g c =
     let loads = load_logs g.S.Store c.args.store.now c.load.new.self (Ok c.in_ok-load.field-0) load.shape load.slots load.failed load.counted load.lsn load.blocks load.settles load.any_moment load.holds_back in
     rw c.from_residual-in_err-clean_copy.ensures.0 (more_logs g.S.Store c.args.store.now c.load.new.self c.clean_copy.new.store [] [] false loads c.in_err-clean_copy.ensures.logs)
 
-pub returns-then-patches-eq0-clause-logs : goal.returns-then-patches-eq0-clause-logs
-returns-then-patches-eq0-clause-logs g c =
-    let load = c.in_ok-load.ensures in
-    let loads = load_logs g.S.Store c.args.store.now c.load.new.self (Ok c.in_ok-load.field-0) load.shape load.slots load.failed load.counted load.lsn load.blocks load.settles load.any_moment load.holds_back in
-    more_logs g.S.Store c.args.store.now c.load.new.self c.clean_copy.new.store [] [] true loads c.in_ok-clean_copy.ensures.logs
-
 pub returns-clause-logs : goal.returns-clause-logs
 returns-clause-logs g c =
     let load = c.in_ok-load.ensures in

@@ -7,13 +7,13 @@ use Rattle.rb_segment.specs.Header.{segment_of, slot_in}
 use Rattle.rb_sound.specs.Active.{Fits, IsActive}
 use Rattle.rb_sound.proofs.active.slots_sound.Goals as goal
 
-pub returns-in_err-header-clause-logs : goal.returns-in_err-header-clause-logs
-returns-in_err-header-clause-logs g c = rw c.from_residual.ensures.0 c.in_err-header.ensures.logs
+pub returns-in_err-copy_block-clause-logs : goal.returns-in_err-copy_block-clause-logs
+returns-in_err-copy_block-clause-logs g c = rw c.from_residual.ensures.0 c.in_err-copy_block.ensures.logs
 
 pub loop-i-init : goal.loop-i-init
 loop-i-init g c =
     record {
-      logs = c.in_ok-header.ensures.logs;
+      logs = c.in_ok-copy_block.ensures.logs;
       so_far = λ told. below_none (λ (k : ℕ). (slot_in (segment_of c.args.shape (g.S.Store.blocks c.args.store.now) c.args.g).header k).state ≡ ACTIVE → IsActive (Fits c.args.limits.now) c.args.shape c.args.g (segment_of c.args.shape (g.S.Store.blocks c.args.store.now) c.args.g) k);
     }
 

@@ -1,15 +1,13 @@
 use Rattle.std.proofs.Common.{◌≡◌, ◌<◌, ◌+◌, ◌^◌, ◌∷◌, inl, ℕ, not, List, [], refl, sym, ◌∙◌, ap, subst, arith}
 use Rattle.std.proofs.lemmas.Result.{on_ok_weaker}
 use Rattle.std.specs.Result.{is_err}
-use Rattle.rb_base.specs.declared.sizes.TheConstants.{WORN}
 use Rattle.rb_base.proofs.Each.{all_so}
 use Rattle.rb_base.specs.Blocks.{after_group, block_of, shape_blocks, table_blocks}
 use Rattle.rb_base.specs.Groups.{Patch}
 use Rattle.rb_base.specs.Logs.{Logs, apply_logs, more_logs, no_logs}
 use Rattle.rb_base.specs.declared.shape.Shape.{Shape}
 use Rattle.rb_cleanout.proofs.Grouped.{of_block}
-use Rattle.rb_cleanout.proofs.Plans.{planned, unplanned}
-use Rattle.rb_cleanout.specs.Cleaned.{IsPlan, PlansClean, look_of}
+use Rattle.rb_cleanout.specs.Cleaned.{PlansClean, look_of}
 use Rattle.rb_heap.specs.Cleaning.{IsCleanPatch, cleaned_home}
 use Rattle.rb_heap.specs.Homes.{home_of}
 use Rattle.law_crash.specs.Made.{CleanMade}
@@ -27,13 +25,13 @@ pub returns-then-logged-ge-WORN-clause-logs : goal.returns-then-logged-ge-WORN-c
 returns-then-logged-ge-WORN-clause-logs g c = ([], no_logs g.S.Store c.args.store.now c.requires.going, omega arith)
 
 -- there was nothing to clean
-pub returns-in_default-clause-cleaned : goal.returns-in_default-clause-cleaned
-returns-in_default-clause-cleaned g c = λ told h xids shape holds young.
+pub returns-then-not-branch-clause-cleaned : goal.returns-then-not-branch-clause-cleaned
+returns-then-not-branch-clause-cleaned g c = λ told h xids shape holds young.
     let s = g.S.Store in
     let blocks = s.blocks c.args.store.now in
-    let plan = c.in_ok-plan.ensures in
+    let plan = c.in_ok-plan_clean.ensures in
     let there : c.args.no < table_blocks h.shape = omega (arith, c.requires.there, ap table_blocks shape) in
-    let clean : cleaned_home (look_of (s.shape_of c.args.store.now) blocks) (home_of (block_of blocks c.args.no)) ≡ home_of (block_of blocks c.args.no) = unplanned _ c.in_ok-plan.field-0 c.in_default.is (plan.none told) in
+    let clean : cleaned_home (look_of (s.shape_of c.args.store.now) blocks) (home_of (block_of blocks c.args.no)) ≡ home_of (block_of blocks c.args.no) = plan.none told c.if-not-branch.true in
     ap (λ (l : List (List ℕ)). home_of (block_of l c.args.no)) (plan.logs.blocks told refl)
     ∙ home_is_clean h xids blocks holds.blocks c.args.no there (subst (λ (k : Shape). cleaned_home (look_of k blocks) (home_of (block_of blocks c.args.no)) ≡ home_of (block_of blocks c.args.no)) shape clean)
 
@@ -41,31 +39,31 @@ returns-in_default-clause-cleaned g c = λ told h xids shape holds young.
 pub apply-requires-clause-within : goal.apply-requires-clause-within
 apply-requires-clause-within g c =
     let s = g.S.Store in
-    all_so (IsCleanPatch c.args.no) (λ (p : Patch). p.block < shape_blocks (s.shape_of c.plan_clean.new.store)) c.in-Some.plan
-    (λ p is. omega (arith, of_block c.args.no p is, c.requires.there, ap shape_blocks c.in_ok-plan.ensures.logs.same_shape)) (planned (IsPlan c.args.no) c.in_ok-plan.field-0 c.in-Some.plan c.in-Some.is c.in_ok-plan.ensures.some).2
+    all_so (IsCleanPatch c.args.no) (λ (p : Patch). p.block < shape_blocks (s.shape_of c.plan_clean.new.store)) c.plan_clean.new.workspace.group
+    (λ p is. omega (arith, of_block c.args.no p is, c.requires.there, ap shape_blocks c.in_ok-plan_clean.ensures.logs.same_shape)) (c.in_ok-plan_clean.ensures.some c.if-not-branch.false).2
 
 pub apply-requires-clause-some : goal.apply-requires-clause-some
-apply-requires-clause-some g c = (planned (IsPlan c.args.no) c.in_ok-plan.field-0 c.in-Some.plan c.in-Some.is c.in_ok-plan.ensures.some).0
+apply-requires-clause-some g c = (c.in_ok-plan_clean.ensures.some c.if-not-branch.false).0
 
-given : (g : Over) (c : goal.After-apply g) → Logs g.S.Store c.args.store.now c.apply.new.self (c.in-Some.plan ∷ []) (not (is_err c.apply.result))
+given : (g : Over) (c : goal.After-apply g) → Logs g.S.Store c.args.store.now c.apply.new.self (c.plan_clean.new.workspace.group ∷ []) (not (is_err c.apply.result))
 given g c =
     let s = g.S.Store in
     let call = c.apply.ensures in
-    more_logs s c.args.store.now c.plan_clean.new.store c.apply.new.self [] (c.in-Some.plan ∷ []) (not (is_err c.apply.result)) c.in_ok-plan.ensures.logs
-    (apply_logs s c.plan_clean.new.store c.apply.new.self c.in-Some.plan c.apply.result call.shape call.slots call.failed call.counted call.lsn call.blocks call.settles call.any_moment call.holds_back)
+    more_logs s c.args.store.now c.plan_clean.new.store c.apply.new.self [] (c.plan_clean.new.workspace.group ∷ []) (not (is_err c.apply.result)) c.in_ok-plan_clean.ensures.logs
+    (apply_logs s c.plan_clean.new.store c.apply.new.self c.plan_clean.new.workspace.group c.apply.result call.shape call.slots call.failed call.counted call.lsn call.blocks call.settles call.any_moment call.holds_back)
 
 pub returns-clause-logs : goal.returns-clause-logs
-returns-clause-logs g c = (c.in-Some.plan ∷ [], given g c, omega arith)
+returns-clause-logs g c = (c.plan_clean.new.workspace.group ∷ [], given g c, omega arith)
 
 pub returns-clause-gives : goal.returns-clause-gives
 returns-clause-gives g c = λ told h xids shape holds.
     let s = g.S.Store in
     let old = c.args.store.now in
-    let group = c.in-Some.plan in
-    let plan = c.in_ok-plan.ensures in
+    let group = c.plan_clean.new.workspace.group in
+    let plan = c.in_ok-plan_clean.ensures in
     let there : c.args.no < table_blocks h.shape = omega (arith, c.requires.there, ap table_blocks shape) in
-    let is = planned (IsPlan c.args.no) c.in_ok-plan.field-0 group c.in-Some.is plan.some in
-    let plans = planned (λ (l : List Patch). PlansClean (look_of (s.shape_of old) (s.blocks old)) c.args.no l (block_of (s.blocks old) c.args.no)) c.in_ok-plan.field-0 group c.in-Some.is (plan.plans told) in
+    let is = plan.some c.if-not-branch.false in
+    let plans = plan.plans told c.if-not-branch.false in
     let young : logged_of h.shape (s.blocks old) < 2 ^ 60 = omega (arith, holds.logged, c.logged.ensures, c.if-logged-ge-WORN.false) in
     inl (record {
       groups = group ∷ [];
@@ -81,11 +79,11 @@ returns-clause-cleaned g c = λ told h xids shape holds young.
     let s = g.S.Store in
     let old = c.args.store.now in
     let mid = c.plan_clean.new.store in
-    let group = c.in-Some.plan in
-    let plan = c.in_ok-plan.ensures in
+    let group = c.plan_clean.new.workspace.group in
+    let plan = c.in_ok-plan_clean.ensures in
     let there : c.args.no < table_blocks h.shape = omega (arith, c.requires.there, ap table_blocks shape) in
-    let is = planned (IsPlan c.args.no) c.in_ok-plan.field-0 group c.in-Some.is plan.some in
-    let plans = planned (λ (l : List Patch). PlansClean (look_of (s.shape_of old) (s.blocks old)) c.args.no l (block_of (s.blocks old) c.args.no)) c.in_ok-plan.field-0 group c.in-Some.is (plan.plans told) in
+    let is = plan.some c.if-not-branch.false in
+    let plans = plan.plans told c.if-not-branch.false in
     on_ok_weaker c.apply.result
     (λ now. ap (λ (l : List (List ℕ)). home_of (block_of l c.args.no)) (now ∙ ap (after_group (s.lsn mid + 1) group) (plan.logs.blocks told refl))
     ∙ home_after h xids (s.blocks old) holds.blocks c.args.no there group is.2 (of_shape (s.shape_of old) h (s.blocks old) c.args.no group shape plans) (s.lsn mid + 1))

@@ -20,18 +20,18 @@ use Rattle.rb_steps.proofs.finish.end_step.Given.{Over}
 use Rattle.rb_steps.proofs.finish.end_step.Goals as goal
 
 -- the header couldn't be loaded
-pub returns-in_err-header-clause-logs : goal.returns-in_err-header-clause-logs
-returns-in_err-header-clause-logs g c = (
+pub returns-in_err-copy_block-clause-logs : goal.returns-in_err-copy_block-clause-logs
+returns-in_err-copy_block-clause-logs g c = (
   [],
-  rw c.from_residual.ensures.0 c.in_err-header.ensures.logs,
+  rw c.from_residual.ensures.0 c.in_err-copy_block.ensures.logs,
   omega arith,
 )
 
-pub returns-in_err-header-clause-gives : goal.returns-in_err-header-clause-gives
-returns-in_err-header-clause-gives g c = λ told h xids r stand same owned runs empty number.
+pub returns-in_err-copy_block-clause-gives : goal.returns-in_err-copy_block-clause-gives
+returns-in_err-copy_block-clause-gives g c = λ told h xids r stand same owned runs empty number.
     record {
       groups = [];
-      logs = rw c.from_residual.ensures.0 c.in_err-header.ensures.logs;
+      logs = rw c.from_residual.ensures.0 c.in_err-copy_block.ensures.logs;
       few = omega arith;
       one = λ goes. (let clash : false ≡ true = sym (ap not c.from_residual.ensures.0) ∙ goes in absurd cc);
       made = λ any. absurd (omega (arith, any));
@@ -40,7 +40,7 @@ returns-in_err-header-clause-gives g c = λ told h xids r stand same owned runs 
 -- nothing was done
 pub returns-then-not-is_rolled_back-clause-logs : goal.returns-then-not-is_rolled_back-clause-logs
 returns-then-not-is_rolled_back-clause-logs g c =
-    ([], c.in_ok-header.ensures.logs, omega arith)
+    ([], c.in_ok-copy_block.ensures.logs, omega arith)
 
 -- which isn't so of a transaction that runs and has no live change
 pub returns-then-not-is_rolled_back-clause-gives : goal.returns-then-not-is_rolled_back-clause-gives
@@ -50,7 +50,7 @@ returns-then-not-is_rolled_back-clause-gives g c = λ told h xids r stand same o
     let x = c.args.xid in
     let at = header_block h.shape x.seg in
     let block_is : header_block c.shape-shape.result x.seg ≡ at = ap (λ (k : Shape). header_block k x.seg) (c.shape-shape.ensures.shape ∙ same) in
-    let read = c.in_ok-header.ensures.copy told ∙ ap (block_of (s.blocks old)) (c.header_block.ensures.number ∙ block_is) in
+    let read = c.in_ok-copy_block.ensures.copy told ∙ ap (block_of (s.blocks old)) (c.header_block.ensures.number ∙ block_is) in
     let there : x.seg < h.shape.segments = omega (arith, c.requires.there, ap (λ (k : Shape). k.segments) same) in
     let live = live_is h xids (s.blocks old) (s.blocks old) r x stand there c.requires.slot owned runs in
     let is : c.is_rolled_back.result ≡ true = c.is_rolled_back.ensures.1 (subst (λ (l : List ℕ). Runs (header_of l) x × ((slot_in (header_of l) x.slot).live ≡ 0)) (sym read) (runs, (let none = ap length empty in omega (arith, none, live)))) in
@@ -62,9 +62,9 @@ applied : (g : Over) (c : goal.After-apply g) → Logs g.S.Store c.args.store.no
 applied g c =
     let s = g.S.Store in
     let call = c.apply.ensures in
-    more_logs s c.args.store.now c.copy_of.new.store c.apply.new.self [] (c.end.new.group ∷ []) (not (is_err c.apply.result))
-    c.in_ok-header.ensures.logs
-    (apply_logs s c.copy_of.new.store c.apply.new.self c.end.new.group c.apply.result call.shape call.slots call.failed call.counted call.lsn call.blocks call.settles call.any_moment call.holds_back)
+    more_logs s c.args.store.now c.copy_block.new.store c.apply.new.self [] (c.end.new.group ∷ []) (not (is_err c.apply.result))
+    c.in_ok-copy_block.ensures.logs
+    (apply_logs s c.copy_block.new.store c.apply.new.self c.end.new.group c.apply.result call.shape call.slots call.failed call.counted call.lsn call.blocks call.settles call.any_moment call.holds_back)
 
 -- and the blocks after it stand for the state after the end
 makes : (g : Over) (c : goal.After-apply g) → g.S.Store.tells → (h : State) (xids : List Xid) (r : ℕ) → BlocksStand h xids (g.S.Store.blocks c.args.store.now) → g.S.Store.shape_of c.args.store.now ≡ h.shape → Owned h r c.args.xid.seg c.args.xid.slot → session_own h r ≡ []
@@ -80,11 +80,11 @@ makes g c told h xids r stand same owned empty number =
     let at = header_block h.shape x.seg in
     let shape_is : c.shape-shape.result ≡ h.shape = c.shape-shape.ensures.shape ∙ same in
     let block_is : header_block c.shape-shape.result x.seg ≡ at = ap (λ (k : Shape). header_block k x.seg) shape_is in
-    let read = c.in_ok-header.ensures.copy told ∙ ap (block_of (s.blocks old)) (c.header_block.ensures.number ∙ block_is) in
+    let read = c.in_ok-copy_block.ensures.copy told ∙ ap (block_of (s.blocks old)) (c.header_block.ensures.number ∙ block_is) in
     let run : Runs (header_of (block_of blocks at)) x = subst (λ (l : List ℕ). Runs (header_of l) x) read (c.is_rolled_back.ensures.0 c.if-not-is_rolled_back.false).0 in
-    let patches : group ≡ slot_patches at x.slot (header_of header) = c.end.ensures.patches ∙ (ap (λ (l : List Patch). l ++ slot_patches (header_block c.shape-shape.result x.seg) x.slot (header_of header)) c.new.ensures ∙ ap (λ (b : ℕ). slot_patches b x.slot (header_of header)) block_is) in
+    let patches : group ≡ slot_patches at x.slot (header_of header) = c.end.ensures.patches ∙ (ap (λ (l : List Patch). l ++ slot_patches (header_block c.shape-shape.result x.seg) x.slot (header_of header)) c.clear.ensures ∙ ap (λ (b : ℕ). slot_patches b x.slot (header_of header)) block_is) in
     let only : AllByRecursion (λ p. p.block ≡ at) group = subst (AllByRecursion (λ p. p.block ≡ at)) (sym patches) (end_there at x.slot (header_of header)) in
-    let copied : header ≡ written_to at group (block_of blocks at) = c.end.ensures.copy ∙ (ap (λ (b : ℕ). written_to b (slot_patches b x.slot (header_of header)) c.in_ok-header.header) block_is ∙ (ap (λ (l : List Patch). written_to at l c.in_ok-header.header) (sym patches) ∙ ap (written_to at group) read)) in
+    let copied : header ≡ written_to at group (block_of blocks at) = c.end.ensures.copy ∙ (ap (λ (b : ℕ). written_to b (slot_patches b x.slot (header_of header)) c.copy_block.new.copy) block_is ∙ (ap (λ (l : List Patch). written_to at l c.copy_block.new.copy) (sym patches) ∙ ap (written_to at group) read)) in
     let means : header_of header ≡ moves.ended x.slot (header_of (block_of blocks at)) = c.end.ensures.moved ∙ ap (λ (l : List ℕ). moves.ended x.slot (header_of l)) read in
     let some : 1 ≤ length group = let count = ap length patches in omega (arith, count) in
     let valid = c.patches-count.ensures.valid in
@@ -109,7 +109,7 @@ returns-clause-gives g c = λ told h xids r stand same owned runs empty number.
 pub apply-requires-clause-some : goal.apply-requires-clause-some
 apply-requires-clause-some g c =
     let header = c.end.new.header in
-    let patches = ap length (c.end.ensures.patches ∙ ap (λ (l : List Patch). l ++ slot_patches (header_block c.shape-shape.result c.args.xid.seg) c.args.xid.slot (header_of header)) c.new.ensures) in
+    let patches = ap length (c.end.ensures.patches ∙ ap (λ (l : List Patch). l ++ slot_patches (header_block c.shape-shape.result c.args.xid.seg) c.args.xid.slot (header_of header)) c.clear.ensures) in
     omega (arith, patches)
 
 pub apply-requires-clause-within : goal.apply-requires-clause-within
@@ -117,16 +117,16 @@ apply-requires-clause-within g c =
     let s = g.S.Store in
     let header = c.end.new.header in
     let at = header_block c.shape-shape.result c.args.xid.seg in
-    let patches : c.end.new.group ≡ slot_patches at c.args.xid.slot (header_of header) = c.end.ensures.patches ∙ ap (λ (l : List Patch). l ++ slot_patches at c.args.xid.slot (header_of header)) c.new.ensures in
+    let patches : c.end.new.group ≡ slot_patches at c.args.xid.slot (header_of header) = c.end.ensures.patches ∙ ap (λ (l : List Patch). l ++ slot_patches at c.args.xid.slot (header_of header)) c.clear.ensures in
     let only : AllByRecursion (λ p. p.block ≡ at) c.end.new.group = subst (AllByRecursion (λ p. p.block ≡ at)) (sym patches) (end_there at c.args.xid.slot (header_of header)) in
-    let shape_is : c.shape-shape.result ≡ s.shape_of c.copy_of.new.store = c.shape-shape.ensures.shape ∙ sym c.in_ok-header.ensures.logs.same_shape in
-    let below : at < shape_blocks (s.shape_of c.copy_of.new.store) = omega (arith, c.requires.there, ap (λ (k : Shape). k.segments) c.shape-shape.ensures.shape, ap shape_blocks shape_is) in
-    all_so (λ (p : Patch). p.block ≡ at) (λ (p : Patch). p.block < shape_blocks (s.shape_of c.copy_of.new.store)) c.end.new.group (λ p is. omega (arith, is, below)) only
+    let shape_is : c.shape-shape.result ≡ s.shape_of c.copy_block.new.store = c.shape-shape.ensures.shape ∙ sym c.in_ok-copy_block.ensures.logs.same_shape in
+    let below : at < shape_blocks (s.shape_of c.copy_block.new.store) = omega (arith, c.requires.there, ap (λ (k : Shape). k.segments) c.shape-shape.ensures.shape, ap shape_blocks shape_is) in
+    all_so (λ (p : Patch). p.block ≡ at) (λ (p : Patch). p.block < shape_blocks (s.shape_of c.copy_block.new.store)) c.end.new.group (λ p is. omega (arith, is, below)) only
 
 -- where it isn't so, no group was given
 pub returns-then-not-is_rolled_back-clause-nothing : goal.returns-then-not-is_rolled_back-clause-nothing
 returns-then-not-is_rolled_back-clause-nothing g c = λ told none.
-    c.in_ok-header.ensures.logs
+    c.in_ok-copy_block.ensures.logs
 
 pub returns-clause-nothing : goal.returns-clause-nothing
 returns-clause-nothing g c = λ told none.
@@ -135,5 +135,5 @@ returns-clause-nothing g c = λ told none.
     let x = c.args.xid in
     let at = header_block (s.shape_of old) x.seg in
     let block_is : header_block c.shape-shape.result x.seg ≡ at = ap (λ (k : Shape). header_block k x.seg) c.shape-shape.ensures.shape in
-    let read = c.in_ok-header.ensures.copy told ∙ ap (block_of (s.blocks old)) (c.header_block.ensures.number ∙ block_is) in
+    let read = c.in_ok-copy_block.ensures.copy told ∙ ap (block_of (s.blocks old)) (c.header_block.ensures.number ∙ block_is) in
     absurd (none (subst (λ (l : List ℕ). Runs (header_of l) x × ((slot_in (header_of l) x.slot).live ≡ 0)) read (c.is_rolled_back.ensures.0 c.if-not-is_rolled_back.false)))

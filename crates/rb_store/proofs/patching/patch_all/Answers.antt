@@ -4,7 +4,7 @@ use Rattle.rb_base.specs.Groups.{Patch, patch}
 use Rattle.rb_base.proofs.Each.{all_at}
 use Rattle.rb_layout.specs.Regions.{block_count}
 use Rattle.rb_layout.specs.declared.layout.Layout.{Layout}
-use Rattle.rb_store.proofs.PatchLemmas.{all_patched, fills_joined, first_patched, more_leaves, more_patched, waits_joined}
+use Rattle.rb_store.proofs.PatchLemmas.{all_patched, fills_joined, first_patched, more_leaves, more_patched, patched_again, waits_joined}
 use Rattle.rb_store.proofs.patching.patch_all.Goals as goal
 
 pub loop-i-init : goal.loop-i-init
@@ -50,3 +50,23 @@ returns-clause-seen g c = λ told k lt.
     let i = c.loop-i.invariant in
     all_patched g.D.Disk c.args.cache.now c.loop-i.cache c.args.disk.now c.loop-i.disk c.args.number c.args.group.now c.loop-i.i i.keeps (i.told told)
     (omega (arith, c.patches-i-end.ensures.count, c.loop-i-test.false, c.loop-i.auto.i-end)) k lt
+
+-- a patch of a block that has them all
+pub loop-i-preserved-then-is_patched_before : goal.loop-i-preserved-then-is_patched_before
+loop-i-preserved-then-is_patched_before g c =
+    let i = c.loop-i.invariant in
+    let lt : c.loop-i.i < length c.args.group.now = omega (arith, c.patches-i-end.ensures.count, c.loop-i-test.true, c.loop-i.auto.i-end) in
+    record {
+      memory = i.memory;
+      batch = i.batch;
+      keeps = i.keeps;
+      numbers = i.numbers;
+      waits = i.waits;
+      fills = i.fills;
+      still = i.still;
+      told = λ told.
+          let q = patch 0 0 [] in
+          let p = get_or c.args.group.now c.loop-i.i q in
+          patched_again g.D.Disk c.args.cache.now c.loop-i.cache c.args.disk.now c.loop-i.disk c.args.number c.args.group.now c.loop-i.i i.keeps (i.told told)
+          p (get_or_default c.args.group.now c.loop-i.i q p lt) lt (c.is_patched_before.ensures c.if-is_patched_before.true q);
+    }

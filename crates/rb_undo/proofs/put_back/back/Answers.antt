@@ -17,11 +17,11 @@ use Rattle.rb_undoblock.specs.declared.record.UndoRecord.{UndoRecord}
 use Rattle.rb_undo.proofs.put_back.back.Goals as goal
 
 -- a fault of the first load
-pub returns-in_err-header-clause-logs : goal.returns-in_err-header-clause-logs
-returns-in_err-header-clause-logs g c = (
+pub returns-in_err-copy_block-clause-logs : goal.returns-in_err-copy_block-clause-logs
+returns-in_err-copy_block-clause-logs g c = (
   [],
   rw c.from_residual.ensures.0
-      c.in_err-header.ensures.logs,
+      c.in_err-copy_block.ensures.logs,
   λ told. inl refl,
   omega arith,
 )
@@ -31,8 +31,8 @@ pub returns-in_err-undo-clause-logs : goal.returns-in_err-undo-clause-logs
 returns-in_err-undo-clause-logs g c = (
   [],
   rw c.from_residual-in_err-undo.ensures.0
-      (more_logs g.S.Store c.args.store.now c.copy_of.new.store c.newest.new.store [] [] false
-      c.in_ok-header.ensures.logs
+      (more_logs g.S.Store c.args.store.now c.copy_block.new.store c.newest.new.store [] [] false
+      c.in_ok-copy_block.ensures.logs
       c.in_err-undo.ensures.logs),
   λ told. inl refl,
   omega arith,
@@ -42,8 +42,8 @@ returns-in_err-undo-clause-logs g c = (
 pub returns-in_default-clause-logs : goal.returns-in_default-clause-logs
 returns-in_default-clause-logs g c = (
   [],
-  more_logs g.S.Store c.args.store.now c.copy_of.new.store c.newest.new.store [] [] true
-      c.in_ok-header.ensures.logs
+  more_logs g.S.Store c.args.store.now c.copy_block.new.store c.newest.new.store [] [] true
+      c.in_ok-copy_block.ensures.logs
       c.in_ok-undo.ensures.logs,
   λ told. inl refl,
   omega arith,
@@ -51,16 +51,16 @@ returns-in_default-clause-logs g c = (
 
 pub returns-in_default-clause-nothing : goal.returns-in_default-clause-nothing
 returns-in_default-clause-nothing g c told not =
-    more_logs g.S.Store c.args.store.now c.copy_of.new.store c.newest.new.store [] [] true
-    c.in_ok-header.ensures.logs
+    more_logs g.S.Store c.args.store.now c.copy_block.new.store c.newest.new.store [] [] true
+    c.in_ok-copy_block.ensures.logs
     c.in_ok-undo.ensures.logs
 
 pub take_back-requires-clause-room : goal.take_back-requires-clause-room
-take_back-requires-clause-room g c = home_short _ _ _ _ _ _ _ c.new.ensures c.change.ensures.patches c.change.ensures.cell_sound
+take_back-requires-clause-room g c = home_short _ _ _ _ _ _ _ c.clear.ensures c.change.ensures.patches c.change.ensures.cell_sound
 
 -- the loads don't change the number of the last group
 number_kept : (g : Over) (c : goal.After-apply-arg-1 g) → g.S.Store.lsn c.newest.new.store ≡ g.S.Store.lsn c.args.store.now
-number_kept g c = plus_none (g.S.Store.lsn c.newest.new.store) (g.S.Store.lsn c.copy_of.new.store) (c.in_ok-undo.ensures.logs.number refl) ∙ plus_none (g.S.Store.lsn c.copy_of.new.store) (g.S.Store.lsn c.args.store.now) (c.in_ok-header.ensures.logs.number refl)
+number_kept g c = plus_none (g.S.Store.lsn c.newest.new.store) (g.S.Store.lsn c.copy_block.new.store) (c.in_ok-undo.ensures.logs.number refl) ∙ plus_none (g.S.Store.lsn c.copy_block.new.store) (g.S.Store.lsn c.args.store.now) (c.in_ok-copy_block.ensures.logs.number refl)
 
 pub apply-requires-clause-going : goal.apply-requires-clause-going
 apply-requires-clause-going g c = c.in_ok-undo.ensures.logs.failed
@@ -69,17 +69,17 @@ pub apply-requires-clause-few : goal.apply-requires-clause-few
 apply-requires-clause-few g c = rw (number_kept g c) c.requires.few
 
 -- the copy is of the header's block
-copied : (g : Over) (c : goal.After-apply g) → g.S.Store.tells → c.in_ok-header.header ≡ block_of (g.S.Store.blocks c.args.store.now) (header_block (g.S.Store.shape_of c.args.store.now) c.args.xid.seg)
+copied : (g : Over) (c : goal.After-apply g) → g.S.Store.tells → c.copy_block.new.copy ≡ block_of (g.S.Store.blocks c.args.store.now) (header_block (g.S.Store.shape_of c.args.store.now) c.args.xid.seg)
 copied g c told =
     let no = c.header_block.ensures.number ∙ ap (λ (shape : Shape). header_block shape c.args.xid.seg) c.shape-shape.ensures.shape in
-    c.in_ok-header.ensures.copy told ∙ ap (block_of (g.S.Store.blocks c.args.store.now)) no
+    c.in_ok-copy_block.ensures.copy told ∙ ap (block_of (g.S.Store.blocks c.args.store.now)) no
 
 -- the record is the newest one
 found : (g : Over) (c : goal.After-apply g) → g.S.Store.tells → c.in-Some.undo ≡ newest_record (g.S.Store.shape_of c.args.store.now) (g.S.Store.blocks c.args.store.now) c.args.xid
 found g c told =
     let is = rw c.in-Some.is at (c.in_ok-undo.ensures.found told) in
-    is.1 ∙ ap (λ (shape : Shape). newest_record shape (g.S.Store.blocks c.copy_of.new.store) c.args.xid) c.shape-shape.ensures.shape
-    ∙ ap (λ (blocks : List (List ℕ)). newest_record (g.S.Store.shape_of c.args.store.now) blocks c.args.xid) (c.in_ok-header.ensures.logs.blocks told refl)
+    is.1 ∙ ap (λ (shape : Shape). newest_record shape (g.S.Store.blocks c.copy_block.new.store) c.args.xid) c.shape-shape.ensures.shape
+    ∙ ap (λ (blocks : List (List ℕ)). newest_record (g.S.Store.shape_of c.args.store.now) blocks c.args.xid) (c.in_ok-copy_block.ensures.logs.blocks told refl)
 
 -- so the group is the one that the contract says
 group_is : (g : Over) (c : goal.After-apply g) → g.S.Store.tells → c.take_back.new.group ≡ back_patches (g.S.Store.shape_of c.args.store.now) c.args.xid (newest_record (g.S.Store.shape_of c.args.store.now) (g.S.Store.blocks c.args.store.now) c.args.xid) (header_for (g.S.Store.shape_of c.args.store.now) (g.S.Store.blocks c.args.store.now) c.args.xid)
@@ -87,8 +87,8 @@ group_is g c told =
     let shape = g.S.Store.shape_of c.args.store.now in
     let h = header_for shape (g.S.Store.blocks c.args.store.now) c.args.xid in
     group_made _ c.args.xid c.in-Some.undo _ _ _ _ _ _ _
-    c.new.ensures c.change.ensures.patches c.take_back.ensures.patches c.cell_from-cell.ensures c.entry_from-entry.ensures c.take_back.ensures.moved
-    ∙ ap (λ (s : Shape). back_patches s c.args.xid c.in-Some.undo (header_of c.in_ok-header.header)) c.shape-shape.ensures.shape
+    c.clear.ensures c.change.ensures.patches c.take_back.ensures.patches c.cell_from-cell.ensures c.entry_from-entry.ensures c.take_back.ensures.moved
+    ∙ ap (λ (s : Shape). back_patches s c.args.xid c.in-Some.undo (header_of c.copy_block.new.copy)) c.shape-shape.ensures.shape
     ∙ ap (λ (l : List ℕ). back_patches shape c.args.xid c.in-Some.undo (header_of l)) (copied g c told)
     ∙ ap (λ (u : UndoRecord). back_patches shape c.args.xid u h) (found g c told)
 
@@ -99,7 +99,7 @@ applied g c =
     let old = c.args.store.now in
     let mid = c.newest.new.store in
     let call = c.apply.ensures in
-    more_logs s old mid c.apply.new.self [] (c.take_back.new.group ∷ []) (not (is_err c.apply.result)) (more_logs s old c.copy_of.new.store mid [] [] true c.in_ok-header.ensures.logs c.in_ok-undo.ensures.logs)
+    more_logs s old mid c.apply.new.self [] (c.take_back.new.group ∷ []) (not (is_err c.apply.result)) (more_logs s old c.copy_block.new.store mid [] [] true c.in_ok-copy_block.ensures.logs c.in_ok-undo.ensures.logs)
     (apply_logs s mid c.apply.new.self c.take_back.new.group c.apply.result call.shape call.slots call.failed call.counted call.lsn call.blocks call.settles call.any_moment call.holds_back)
 
 -- it can be put back
@@ -107,7 +107,7 @@ can : (g : Over) (c : goal.After-apply g) → g.S.Store.tells → CanBack (g.S.S
 can g c told =
     let is = rw c.in-Some.is at (c.in_ok-undo.ensures.found told) in
     subst (λ (shape : Shape). CanBack shape (g.S.Store.blocks c.args.store.now) c.args.xid) c.shape-shape.ensures.shape
-    (subst (λ (blocks : List (List ℕ)). CanBack c.shape-shape.result blocks c.args.xid) (c.in_ok-header.ensures.logs.blocks told refl) is.0)
+    (subst (λ (blocks : List (List ℕ)). CanBack c.shape-shape.result blocks c.args.xid) (c.in_ok-copy_block.ensures.logs.blocks told refl) is.0)
 
 -- and the group is one that does
 makes : (g : Over) (c : goal.After-apply g) → (told : g.S.Store.tells) → ArePutBack (g.S.Store.shape_of c.args.store.now) c.args.xid (g.S.Store.lsn c.args.store.now) (g.S.Store.blocks c.args.store.now) (c.take_back.new.group ∷ [])
@@ -120,13 +120,13 @@ makes g c told =
     let u = newest_record shape blocks x in
     let header = c.take_back.new.header in
     let may = can g c told in
-    let are = c.in_ok-header.ensures.whole told in
+    let are = c.in_ok-copy_block.ensures.whole told in
     let is = found g c told in
     let cell_sound = subst IsCell (c.cell_from-cell.ensures ∙ ap (λ (u : UndoRecord). cell_of u.cell_before) is) c.change.ensures.cell_sound in
     let entry_sound = subst IsEntry (c.entry_from-entry.ensures ∙ ap (λ (u : UndoRecord). entry_of u.entry_before) is) c.change.ensures.entry_sound in
     let in_range = subst IsShape c.shape-shape.ensures.shape c.shape-shape.ensures.in_range in
     let copy = c.take_back.ensures.copy
-    ∙ ap (λ (s : Shape). written_to (header_block s x.seg) (slot_patches (header_block s x.seg) x.slot (header_of header)) c.in_ok-header.header) c.shape-shape.ensures.shape
+    ∙ ap (λ (s : Shape). written_to (header_block s x.seg) (slot_patches (header_block s x.seg) x.slot (header_of header)) c.copy_block.new.copy) c.shape-shape.ensures.shape
     ∙ ap (written_to (header_block shape x.seg) (slot_patches (header_block shape x.seg) x.slot (header_of header))) (copied g c told) in
     let moved = c.take_back.ensures.moved
     ∙ ap (λ (l : List ℕ). taken_back x.slot c.in-Some.undo.previous (header_of l)) (copied g c told)
@@ -162,14 +162,14 @@ returns-clause-means g c told can =
 pub returns-clause-nothing : goal.returns-clause-nothing
 returns-clause-nothing g c told none = absurd (none (can g c told))
 
-pub returns-in_err-header-clause-put_back : goal.returns-in_err-header-clause-put_back
-returns-in_err-header-clause-put_back g c told may = IfOk-from_err c.from_residual.result _ c.from_residual.ensures.0
+pub returns-in_err-copy_block-clause-put_back : goal.returns-in_err-copy_block-clause-put_back
+returns-in_err-copy_block-clause-put_back g c told may = IfOk-from_err c.from_residual.result _ c.from_residual.ensures.0
 
-pub returns-in_err-header-clause-means : goal.returns-in_err-header-clause-means
-returns-in_err-header-clause-means g c told may = IfOk-from_err c.from_residual.result _ c.from_residual.ensures.0
+pub returns-in_err-copy_block-clause-means : goal.returns-in_err-copy_block-clause-means
+returns-in_err-copy_block-clause-means g c told may = IfOk-from_err c.from_residual.result _ c.from_residual.ensures.0
 
-pub returns-in_err-header-clause-nothing : goal.returns-in_err-header-clause-nothing
-returns-in_err-header-clause-nothing g c told none = IfOk-from_err c.from_residual.result _ c.from_residual.ensures.0
+pub returns-in_err-copy_block-clause-nothing : goal.returns-in_err-copy_block-clause-nothing
+returns-in_err-copy_block-clause-nothing g c told none = IfOk-from_err c.from_residual.result _ c.from_residual.ensures.0
 
 pub returns-in_err-undo-clause-put_back : goal.returns-in_err-undo-clause-put_back
 returns-in_err-undo-clause-put_back g c told may = IfOk-from_err c.from_residual-in_err-undo.result _ c.from_residual-in_err-undo.ensures.0

@@ -18,7 +18,7 @@ returns-clause-logs g c =
     let old = c.args.store.now in
     let mid = c.prepare.new.store in
     let new = c.apply.new.self in
-    let group = c.prepare.new.group in
+    let group = c.prepare.new.workspace.group in
     let call = c.in_ok-apply.ensures in
     let applied = apply_logs s mid new group (Ok c.in_ok-apply.field-0) call.shape call.slots call.failed call.counted call.lsn call.blocks call.settles call.any_moment call.holds_back in (
       group,
@@ -32,7 +32,7 @@ returns-in_err-apply-clause-logs g c =
     let old = c.args.store.now in
     let mid = c.prepare.new.store in
     let new = c.apply.new.self in
-    let group = c.prepare.new.group in
+    let group = c.prepare.new.workspace.group in
     let call = c.in_err-apply.ensures in
     let failed = err_from_is_err_and c.from_residual-in_err-apply.result c.from_residual-in_err-apply.ensures.1 in
     let applied = apply_logs s mid new group (Err c.in_err-apply.field-0.0) call.shape call.slots call.failed call.counted call.lsn call.blocks call.settles call.any_moment call.holds_back in (
@@ -49,7 +49,7 @@ returns-clause-written g c told number young =
     let shape = s.shape_of old in
     let blocks = s.blocks old in
     let logs = c.in_ok-xid.ensures.logs in
-    let group = c.prepare.new.group in
+    let group = c.prepare.new.workspace.group in
     let last : s.lsn c.prepare.new.store + 1 ≡ logged_of shape blocks + 1 = omega (arith, logs.number refl, number) in
     let now = c.in_ok-apply.ensures.blocks told
     ∙ ap (λ (n : ℕ). after_group n group (s.blocks c.prepare.new.store)) last
@@ -80,7 +80,7 @@ returns-clause-group g c told number young =
       logs.1,
       λ some. (
         record { takes = made.takes told young; numbers = made.numbers },
-        (c.in_ok-xid.xid, subst (λ (n : ℕ). IsMade shape blocks (after_group (n + 1) c.prepare.new.group blocks) c.args.ask.now c.in_ok-xid.xid) (sym number) (made.made told young)),
+        (c.in_ok-xid.xid, subst (λ (n : ℕ). IsMade shape blocks (after_group (n + 1) c.prepare.new.workspace.group blocks) c.args.ask.now c.in_ok-xid.xid) (sym number) (made.made told young)),
       ),
     )
 
@@ -97,7 +97,7 @@ returns-in_err-apply-clause-group g c told number young =
       logs.1,
       λ some. (
         record { takes = made.takes told young; numbers = made.numbers },
-        (c.in_ok-xid.xid, subst (λ (n : ℕ). IsMade shape blocks (after_group (n + 1) c.prepare.new.group blocks) c.args.ask.now c.in_ok-xid.xid) (sym number) (made.made told young)),
+        (c.in_ok-xid.xid, subst (λ (n : ℕ). IsMade shape blocks (after_group (n + 1) c.prepare.new.workspace.group blocks) c.args.ask.now c.in_ok-xid.xid) (sym number) (made.made told young)),
       ),
     )
 

@@ -1,6 +1,5 @@
 use Rattle.std.proofs.Common.{◌≡◌, ◌+◌, ◌<◌, ◌≤◌, ◌^◌, ℕ, Bool, List, [], ◌++◌, true, not, Result, Err, IfErr, refl, ap, sym, subst, ◌∙◌, arith}
 use Rattle.std.proofs.lemmas.Result.{err_from_is_err_and, IfOk-from_err}
-use Rattle.rb_base.specs.declared.sizes.TheConstants.{WORN}
 use Rattle.rb_write.proofs.Causes.{both_ways, logs_on, takes_writer}
 use Rattle.rb_write.proofs.Choices.{chain_short, choice_agrees, none_agrees}
 use Rattle.rb_write.proofs.Headers.{ready_is, turned_may, young_at}

@@ -1,5 +1,4 @@
 use Rattle.std.proofs.Common.{sym, ◌∙◌, ap}
-use Rattle.rb_itl.specs.declared.slots.TheConstants.{ENTRIES}
 use Rattle.rb_write.proofs.Held.{names_entry, names_none, then_open}
 use Rattle.rb_write.specs.Holding.{locker, open_xid}
 use Rattle.rb_heap.specs.Homes.{home_of}
