@@ -1,6 +1,6 @@
 -- What follows from the definitions on groups in log slots, for the crates above.
-use Rattle.std.specs.Prelude.{◌≡◌, ◌≢◌, ℕ, ◌+◌, ◌-◌, ◌*◌, ◌^◌}
-use Rattle.std.specs.Prelude.{◌<◌, ◌≤◌, List, [], nat_lt, true, false, if◌then◌else◌}
+use Rattle.std.specs.Prelude.{◌≡◌, ◌≢◌, ℕ, ◌+◌, ◌-◌, ◌*◌}
+use Rattle.std.specs.Prelude.{◌<◌, ◌≤◌, List, [], nat_lt, true, false}
 use Rattle.std.specs.Prelude.{◌∷◌, ◌++◌, length, take, drop, slice_index}
 use Rattle.std.proofs.Common.{zero, suc, inl, inr, ⊎_elim, sym, ◌∙◌, ap, subst, refl, arith}
 use Rattle.std.proofs.lemmas.Bool.{cases_lt}

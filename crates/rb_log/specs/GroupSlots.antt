@@ -1,9 +1,8 @@
 -- What the log slots of a file hold where groups of patches are logged. A slot has a unit as in `Slots`.
 use Rattle.std.specs.Prelude.{◌≡◌, ◌≢◌, ◌⊎◌, ℕ, ◌+◌, ◌-◌, ◌%◌}
-use Rattle.std.specs.Prelude.{◌^◌, ◌<◌, ◌≤◌, ◌==◌, nat_lt, if◌then◌else◌, List}
+use Rattle.std.specs.Prelude.{◌<◌, ◌≤◌, ◌==◌, nat_lt, if◌then◌else◌, List}
 use Rattle.std.specs.Prelude.{[], ◌∷◌, ◌++◌, length, take, drop, replicate, get_or, slice_index, Bool, true}
 use Rattle.std.specs.Prelude.{false}
-use Rattle.std.specs.List.{AllByRecursion}
 use Rattle.rb_log.specs.declared.unit.TheConstants.{GROUP, LENGTH, NUMBER}
 use Rattle.byteorder.specs.Endian.{big_bytes}
 use Rattle.rb_base.specs.Blocks.{AreWithin}
@@ -15,7 +14,7 @@ use Rattle.rb_layout.specs.Regions.{log_offset, shape_of}
 use Rattle.rb_layout.specs.declared.layout.Head.{Head}
 use Rattle.rb_layout.specs.declared.layout.Layout.{Layout}
 use Rattle.rb_log.specs.Slots.{slot_of, log_unit, gate_of, SameOutside}
-use Rattle.rb_log.specs.declared.sizes.TheConstants.{FLUSH_BYTES, FLUSH_SLOTS}
+use Rattle.rb_log.specs.declared.sizes.TheConstants.{FLUSH_SLOTS}
 
 -- The log takes this group: it has a patch, and its blocks are those of the file.
 pub record IsLoggable (l : Layout) (group : List Patch) : Type 0 where
@@ -144,20 +143,3 @@ pub record LogState : Type 0 where
   pub scanned : Bool
   -- what a scan has read ahead: bytes of the units from place `used` on
   pub ahead : List ℕ
-
--- What the log has in memory: room for as many groups as there are slots, of which one stays free, and 32 units. Before
--- the end is found the last of them are read ahead, up to the last slot of the file. No group's number is near the end
--- of its type.
-pub record IsLogMemory (l : Layout) (head : Head) (used : ℕ) (pending : List (List Patch)) (scanned : Bool)
-    (buffer : List ℕ) (ahead room : ℕ) : Type 0 where
-  pub slot : head.slot < l.log
-  pub small : head.number + (used + length pending) ≤ 2 ^ 63
-  pub below : used + length pending < l.log
-  pub enough : l.log ≤ room
-  pub each : AllByRecursion (IsLoggable l) pending
-  pub none : scanned ≡ false → pending ≡ []
-  pub units : length buffer ≡ FLUSH_BYTES
-  pub few : ahead ≤ FLUSH_SLOTS
-  pub within : used + ahead < l.log
-  pub in_line : slot_of l head used + ahead ≤ l.log
-  pub ended : scanned ≡ true → ahead ≡ 0

@@ -8,6 +8,7 @@ mod log;
 mod places;
 mod sizes;
 mod unit;
+mod waiting;
 
 pub use laws::flush_sizes;
 pub use log::Log;

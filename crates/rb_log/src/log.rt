@@ -17,6 +17,7 @@ use crate::flush::write_groups;
 use crate::places::slot_behind;
 use crate::sizes::{FLUSH_BYTES, FLUSH_SLOTS};
 use crate::unit::{group_of, read_ahead};
+use crate::waiting::{put_body, reach};
 use rb_base::{Failed, Group, Lsn, OpenFault, UNIT};
 use rb_disk::{Disk, write_synced};
 use rb_layout::{Head, Layout};
@@ -31,19 +32,23 @@ pub struct Log {
     head: Head,
     // How many groups are in the slots.
     used: u32,
-    // What waits for a flush. Its room is taken when the log is opened.
-    pending: Vec<Group>,
+    // Units for what waits for a flush. Their room is taken when the log is opened; one that was filled stays, and is
+    // filled again.
+    units: Vec<[u8; UNIT]>,
+    // How many of them wait.
+    waiting: u32,
     scanned: bool,
-    // Units for the calls of a scan or a flush.
+    // Units for the calls of a scan.
     buffer: Vec<u8>,
     // How many units at the buffer's end are read ahead, from place `used` on.
     ahead: u32,
 }
 
 impl Model for Log {
-    ghost use Rattle.std.specs.Prelude.{◌-◌, ◌*◌, drop, vec_capacity};
+    ghost use Rattle.std.specs.Prelude.{◌-◌, ◌*◌, take, drop, vec_capacity};
     ghost use Rattle.rb_base.specs.declared.sizes.TheConstants.{UNIT};
-    ghost use Rattle.rb_log.specs.GroupSlots.{LogState, IsLogMemory};
+    ghost use Rattle.rb_log.specs.GroupSlots.{LogState};
+    ghost use Rattle.rb_log.specs.WaitingUnits.{bodies_of, groups_in, IsLogMemory};
     ghost use Rattle.rb_log.specs.declared.sizes.TheConstants.{FLUSH_BYTES};
 
     ghost Value = { LogState };
@@ -52,13 +57,13 @@ impl Model for Log {
       layout = a.layout;
       head = a.head;
       used = a.used;
-      pending = a.pending.items;
+      pending = groups_in (take a.waiting a.units.items);
       scanned = a.scanned;
       ahead = drop (FLUSH_BYTES - UNIT * a.ahead) a.buffer.items;
     } };
 
-    ghost invariant = { λ a. IsLogMemory a.layout a.head a.used a.pending.items a.scanned a.buffer.items a.ahead
-        (vec_capacity a.pending) };
+    ghost invariant = { λ a. IsLogMemory a.layout a.head a.used a.waiting (bodies_of (take a.waiting a.units.items))
+        a.scanned a.buffer.items a.ahead (vec_capacity a.units) };
 }
 
 impl Log {
@@ -77,7 +82,7 @@ impl Log {
         ensures memory { IfErr result (λ e. e ≡ OpenFault.NoMemory) }
         ensures untouched { _disk.new ≡ _disk.old }
     {
-        let Ok(pending) = Vec::with_capacity(alloc, layout.log as usize) else {
+        let Ok(units) = Vec::with_capacity(alloc, layout.log as usize) else {
             return Err(OpenFault::NoMemory);
         };
         let Ok(buffer) = vec![in alloc; 0; FLUSH_BYTES] else {
@@ -87,7 +92,8 @@ impl Log {
             layout: *layout,
             head,
             used: 0,
-            pending,
+            units,
+            waiting: 0,
             scanned: false,
             buffer,
             ahead: 0,
@@ -160,7 +166,7 @@ impl Log {
     pub fn pending(&self) -> u32
         ensures { result ≡ length self.now.pending }
     {
-        self.pending.as_slice().len() as u32
+        self.waiting
     }
 
     /// Whether one more group has room: with it the slots in use stay fewer than all, so that the gate behind
@@ -182,7 +188,11 @@ impl Log {
     {
         // For the proof: the count's contract says that it is a group.
         let _ = group.patches();
-        self.pending.push_reserved(group.copied());
+        let place = self.waiting as usize;
+        let number = self.head.number + u64::from(self.used + self.waiting);
+        reach(&mut self.units, place);
+        put_body(&mut self.units[place], number, group);
+        self.waiting += 1;
     }
 
     /// Writes the groups that wait behind those of the log, in runs of up to 32 slots, with two syncs. After an Ok
@@ -222,17 +232,17 @@ impl Log {
         ensures stays { OnErr result (self.new ≡ self.old) }
         ensures counted { IsCounted (D.faults disk.old) (D.faults disk.new) result }
     {
-        let count = self.pending();
+        let count = self.waiting;
         write_groups(
             disk,
             &self.layout,
             self.head,
             self.used,
-            &self.pending,
-            &mut self.buffer,
+            &mut self.units,
+            count as usize,
         )?;
         self.used += count;
-        self.pending.clear();
+        self.waiting = 0;
         Ok(())
     }
 

@@ -1,7 +1,6 @@
 use Rattle.std.proofs.Common.{◌+◌, ◌++◌, ◌∷◌, [], length, arith, ap, sym, ◌∙◌}
 use Rattle.std.proofs.lemmas.Bool.{eqb-true, eqb-false}
 use Rattle.std.proofs.lemmas.List.{nil_from_length}
-use Rattle.rb_base.specs.declared.sizes.TheConstants.{GROUP_BYTES}
 use Rattle.rb_base.specs.Groups.{patch}
 use Rattle.rb_base.proofs.Groups.{length_pushed}
 use Rattle.rb_group.proofs.Reading.{read_more, read_fits, read_stuck, read_at_end, read_ended, read_found, spelled_length}

@@ -1,16 +1,17 @@
 use Rattle.std.proofs.Common.{◌≡◌, ◌⊎◌, ◌≤◌, ◌<◌, ◌+◌, ◌-◌, true, length}
 use Rattle.rb_log.specs.GroupSlots.{begins_run}
 use Rattle.rb_log.specs.Slots.{slot_of}
+use Rattle.rb_log.specs.WaitingUnits.{groups_in}
 use Rattle.rb_log.proofs.GroupGates.{OpenedSome}
 use Rattle.rb_log.proofs.flush.open_gates.Given as goal
 
 abbrev pub invariant-loop-done : goal.invariant-loop-done
 invariant-loop-done g l = record {
-  within : l.done ≤ length l.groups;
-  begins : (begins_run (l.layout.log - slot_of l.layout l.head l.used) l.done ≡ true) ⊎ (l.done ≡ length l.groups);
-  so_far : (slot : l.head.slot < l.layout.log) → (room : l.used + length l.groups < l.layout.log) → g.D.Disk.tells → OpenedSome l.layout l.head slot l.used l.groups room g.D.Disk l.done l.fn.disk l.disk;
+  within : l.done ≤ length (groups_in l.units);
+  begins : (begins_run (l.layout.log - slot_of l.layout l.head l.used) l.done ≡ true) ⊎ (l.done ≡ length (groups_in l.units));
+  so_far : (slot : l.head.slot < l.layout.log) → (room : l.used + length (groups_in l.units) < l.layout.log) → g.D.Disk.tells → OpenedSome l.layout l.head slot l.used (groups_in l.units) room g.D.Disk l.done l.fn.disk l.disk;
   still : g.D.Disk.faults l.disk ≡ g.D.Disk.faults l.fn.disk;
 }
 
 abbrev pub decreases-loop-done : goal.decreases-loop-done
-decreases-loop-done g l = length l.groups - l.done
+decreases-loop-done g l = length (groups_in l.units) - l.done

@@ -1,5 +1,5 @@
 use Rattle.std.proofs.Common.{◌≡◌, ◌<◌, ◌≤◌, ◌+◌, ◌-◌, ◌*◌, ◌∙◌, List, [], ◌∷◌, ℕ, length, take, ap, sym, arith, refl, subst, Result, Ok, Err, OnOk, OnErr}
-use Rattle.std.proofs.lemmas.List.{length-take-le}
+use Rattle.std.proofs.lemmas.List.{length-take-le, take_all}
 use Rattle.std.proofs.lemmas.Result.{on_ok_weaker}
 use Rattle.rb_base.specs.declared.sizes.TheConstants.{UNIT}
 use Rattle.rb_base.specs.Fields.{overwritten}
@@ -11,109 +11,116 @@ use Rattle.rb_layout.specs.Regions.{log_offset, file_length}
 use Rattle.rb_log.specs.GroupSlots.{StagedFrom}
 use Rattle.rb_log.specs.Slots.{slot_of}
 use Rattle.rb_log.proofs.GroupUnits.{AreSideBySide}
+use Rattle.rb_log.specs.WaitingUnits.{groups_in}
+use Rattle.rb_log.proofs.WaitingLemmas.{as_many, beside}
 use Rattle.rb_log.proofs.RunWrites.{line_written, round_written, line_images, round_images, start, one_write}
 use Rattle.rb_log.proofs.flush.write_run.Given.{Over}
-use Rattle.rb_log.proofs.flush.write_run.Goals.{After-log_at-at}
+use Rattle.rb_log.proofs.flush.write_run.Goals.{After-as_flattened-bytes}
 use Rattle.rb_log.proofs.flush.write_run.Goals as goal
 
 -- where the run is written, and what
-at : (g : Over) (c : After-log_at-at g) → c.log_at-at.result + 1 ≡ log_offset (slot_of c.args.layout.now c.args.head c.args.place) + 1
+at : (g : Over) (c : After-as_flattened-bytes g) → c.log_at-at.result + 1 ≡ log_offset (slot_of c.args.layout.now c.args.head c.args.place) + 1
 at g c = ap (λ (n : ℕ). n + 1) (c.log_at-at.ensures ∙ ap log_offset c.slot_behind-slot.ensures.slot)
 
-filled : (g : Over) (c : After-log_at-at g) → AreSideBySide (c.args.head.number + c.args.place) c.args.groups.now c.fill_run.new.buffer (length c.args.groups.now)
-filled g c k d lt = rw (sym c.from.ensures) (c.fill_run.ensures k d lt)
+-- the units with their gates, side by side
+size : (g : Over) (c : After-as_flattened-bytes g) → length c.as_flattened-bytes.result.now ≡ UNIT * length (groups_in c.args.units.now)
+size g c = omega (arith, c.as_flattened-bytes.ensures.len, c.set_gates.auto.units, as_many c.args.units.now)
 
-line : (g : Over) (c : After-log_at-at g) → c.slot_behind-slot.result + length c.args.groups.now < c.args.layout.now.log → slot_of c.args.layout.now c.args.head c.args.place + length c.args.groups.now < c.args.layout.now.log
-line g c lt = omega (arith, lt, c.slot_behind-slot.ensures.slot)
+filled : (g : Over) (c : After-as_flattened-bytes g) → AreSideBySide (c.args.head.number + c.args.place) (groups_in c.args.units.now) c.as_flattened-bytes.result.now (length (groups_in c.args.units.now))
+filled g c = rw c.as_flattened-bytes.ensures.value (beside (c.args.head.number + c.args.place) c.args.units.now c.set_gates.new.units c.set_gates.auto.units c.set_gates.ensures.whole c.set_gates.ensures.bodies c.set_gates.ensures.gates c.requires.spelled)
 
-full : (g : Over) (c : After-log_at-at g) → c.args.layout.now.log ≤ c.slot_behind-slot.result + length c.args.groups.now → slot_of c.args.layout.now c.args.head c.args.place + length c.args.groups.now ≡ c.args.layout.now.log
-full g c ge = omega (arith, ge, c.requires.line, c.slot_behind-slot.ensures.slot)
+line : (g : Over) (c : After-as_flattened-bytes g) → c.slot_behind-slot.result + length c.args.units.now < c.args.layout.now.log → slot_of c.args.layout.now c.args.head c.args.place + length (groups_in c.args.units.now) < c.args.layout.now.log
+line g c lt = omega (arith, lt, c.slot_behind-slot.ensures.slot, as_many c.args.units.now)
 
-cut : (g : Over) (c : After-log_at-at g) (n : ℕ) → n ≤ UNIT * length c.args.groups.now → length (take n c.fill_run.new.buffer) ≡ n
-cut g c n le = length-take-le n c.fill_run.new.buffer (omega (arith, c.fill_run.auto.buffer, c.requires.buffer, c.requires.few, le))
+full : (g : Over) (c : After-as_flattened-bytes g) → c.args.layout.now.log ≤ c.slot_behind-slot.result + length c.args.units.now → slot_of c.args.layout.now c.args.head c.args.place + length (groups_in c.args.units.now) ≡ c.args.layout.now.log
+full g c ge = omega (arith, ge, c.requires.line, c.slot_behind-slot.ensures.slot, as_many c.args.units.now)
 
-pub returns-then-slot-groups-clause-written : goal.returns-then-slot-groups-clause-written
-returns-then-slot-groups-clause-written g c told =
+-- all of them, and all but the last byte
+most : (g : Over) (c : After-as_flattened-bytes g) → length (take (length c.as_flattened-bytes.result.now - 1) c.as_flattened-bytes.result.now) ≡ UNIT * length (groups_in c.args.units.now) - 1
+most g c = omega (arith, length-take-le (length c.as_flattened-bytes.result.now - 1) c.as_flattened-bytes.result.now (omega arith), size g c)
+
+pub returns-then-slot-units-clause-written : goal.returns-then-slot-units-clause-written
+returns-then-slot-units-clause-written g c told =
     let r = c.requires in
-    let here = (goal.at.returns-then-slot-groups-clause-written g c).After-log_at-at in
-    let n = length c.args.groups.now in
+    let here = (goal.at.returns-then-slot-units-clause-written g c).After-as_flattened-bytes in
+    let n = length (groups_in c.args.units.now) in
     let file = g.D.Disk.content c.args.disk.now in
-    let buffer = c.fill_run.new.buffer in
-    let bytes = take (UNIT * n) buffer in
+    let buffer = c.as_flattened-bytes.result.now in
+    let bytes = buffer in
     on_ok_weaker c.write_at.result
-    (λ is. line_written c.args.layout.now c.args.head r.slot c.args.place c.args.groups.now r.room r.line r.some file (g.D.Disk.content c.write_at.new.self) buffer bytes (line g here (omega (arith, c.if-slot-groups.true))) (r.whole told) r.each (filled g here) refl
-    (cut g here (UNIT * n) (omega arith)) (is ∙ ap (λ (i : ℕ). overwritten file i bytes) (at g here)))
+    (λ is. line_written c.args.layout.now c.args.head r.slot c.args.place (groups_in c.args.units.now) r.room r.line r.some file (g.D.Disk.content c.write_at.new.self) buffer bytes (line g here (omega (arith, c.if-slot-units.true))) (r.whole told) r.each (filled g here) (sym (take_all (UNIT * n) buffer (omega (arith, size g here))))
+    (size g here) (is ∙ ap (λ (i : ℕ). overwritten file i bytes) (at g here)))
     (c.write_at.ensures.written told)
 
-pub returns-then-slot-groups-clause-images : goal.returns-then-slot-groups-clause-images
-returns-then-slot-groups-clause-images g c told =
+pub returns-then-slot-units-clause-images : goal.returns-then-slot-units-clause-images
+returns-then-slot-units-clause-images g c told =
     let r = c.requires in
-    let here = (goal.at.returns-then-slot-groups-clause-images g c).After-log_at-at in
-    let n = length c.args.groups.now in
-    line_images c.args.layout.now c.args.head r.slot c.args.place c.args.groups.now r.room r.line r.some g.D.Disk c.args.disk.now c.write_at.new.self _ _ (at g here) (cut g here (UNIT * n) (omega arith)) (line g here (omega (arith, c.if-slot-groups.true))) (r.sized told) (c.write_at.ensures.images told)
+    let here = (goal.at.returns-then-slot-units-clause-images g c).After-as_flattened-bytes in
+    let n = length (groups_in c.args.units.now) in
+    line_images c.args.layout.now c.args.head r.slot c.args.place (groups_in c.args.units.now) r.room r.line r.some g.D.Disk c.args.disk.now c.write_at.new.self _ _ (at g here) (size g here) (line g here (omega (arith, c.if-slot-units.true))) (r.sized told) (c.write_at.ensures.images told)
 
-pub returns-then-slot-groups-clause-any_moment : goal.returns-then-slot-groups-clause-any_moment
-returns-then-slot-groups-clause-any_moment g c told =
+pub returns-then-slot-units-clause-any_moment : goal.returns-then-slot-units-clause-any_moment
+returns-then-slot-units-clause-any_moment g c told =
     let r = c.requires in
-    let here = (goal.at.returns-then-slot-groups-clause-any_moment g c).After-log_at-at in
-    let n = length c.args.groups.now in
+    let here = (goal.at.returns-then-slot-units-clause-any_moment g c).After-as_flattened-bytes in
+    let n = length (groups_in c.args.units.now) in
     let disk = c.args.disk.now in
-    let first = start c.args.layout.now c.args.head r.slot c.args.place c.args.groups.now r.room r.line r.some g.D.Disk disk (λ f left. g.met.D.Disk.only_now disk f told left) in
-    one_write c.args.layout.now c.args.head r.slot c.args.place c.args.groups.now r.room r.line r.some g.D.Disk disk disk c.write_at.new.self first (c.write_at.ensures.time told)
-    (line_images c.args.layout.now c.args.head r.slot c.args.place c.args.groups.now r.room r.line r.some g.D.Disk disk c.write_at.new.self _ _ (at g here) (cut g here (UNIT * n) (omega arith)) (line g here (omega (arith, c.if-slot-groups.true))) (r.sized told) (c.write_at.ensures.images told))
+    let first = start c.args.layout.now c.args.head r.slot c.args.place (groups_in c.args.units.now) r.room r.line r.some g.D.Disk disk (λ f left. g.met.D.Disk.only_now disk f told left) in
+    one_write c.args.layout.now c.args.head r.slot c.args.place (groups_in c.args.units.now) r.room r.line r.some g.D.Disk disk disk c.write_at.new.self first (c.write_at.ensures.time told)
+    (line_images c.args.layout.now c.args.head r.slot c.args.place (groups_in c.args.units.now) r.room r.line r.some g.D.Disk disk c.write_at.new.self _ _ (at g here) (size g here) (line g here (omega (arith, c.if-slot-units.true))) (r.sized told) (c.write_at.ensures.images told))
 
 -- the images behind the first write of two, which leaves any gate of the first slot
-one : (g : Over) (c : After-log_at-at g) → g.D.Disk.tells → c.args.layout.now.log ≤ c.slot_behind-slot.result + length c.args.groups.now → (mid : g.row.D.Denot) → Follows (Torn (c.log_at-at.result + 1) (length (take (UNIT * length c.args.groups.now - 1) c.fill_run.new.buffer))) (g.D.Disk.image c.args.disk.now) (g.D.Disk.image mid)
-    → (e k : List ℕ) → g.D.Disk.image mid e → Torn (log_offset 0) 1 e k → StagedFrom c.args.layout.now c.args.head c.args.place (length c.args.groups.now) (g.D.Disk.image c.args.disk.now) k
+one : (g : Over) (c : After-as_flattened-bytes g) → g.D.Disk.tells → c.args.layout.now.log ≤ c.slot_behind-slot.result + length c.args.units.now → (mid : g.row.D.Denot) → Follows (Torn (c.log_at-at.result + 1) (length (take (length c.as_flattened-bytes.result.now - 1) c.as_flattened-bytes.result.now))) (g.D.Disk.image c.args.disk.now) (g.D.Disk.image mid)
+    → (e k : List ℕ) → g.D.Disk.image mid e → Torn (log_offset 0) 1 e k → StagedFrom c.args.layout.now c.args.head c.args.place (length (groups_in c.args.units.now)) (g.D.Disk.image c.args.disk.now) k
 one g c told ge mid images =
     let r = c.requires in
-    let n = length c.args.groups.now in
-    round_images c.args.layout.now c.args.head r.slot c.args.place c.args.groups.now r.room r.line r.some g.D.Disk c.args.disk.now mid _ _ (at g c) (cut g c (UNIT * n - 1) (omega arith)) (full g c ge) (r.sized told) images
+    let n = length (groups_in c.args.units.now) in
+    round_images c.args.layout.now c.args.head r.slot c.args.place (groups_in c.args.units.now) r.room r.line r.some g.D.Disk c.args.disk.now mid _ _ (at g c) (most g c) (full g c ge) (r.sized told) images
 
 -- what a crash leaves behind it
-first_moment : (g : Over) (c : After-log_at-at g) → g.D.Disk.tells → c.args.layout.now.log ≤ c.slot_behind-slot.result + length c.args.groups.now → (mid : g.row.D.Denot) → Follows (Torn (c.log_at-at.result + 1) (length (take (UNIT * length c.args.groups.now - 1) c.fill_run.new.buffer))) (g.D.Disk.image c.args.disk.now) (g.D.Disk.image mid)
+first_moment : (g : Over) (c : After-as_flattened-bytes g) → g.D.Disk.tells → c.args.layout.now.log ≤ c.slot_behind-slot.result + length c.args.units.now → (mid : g.row.D.Denot) → Follows (Torn (c.log_at-at.result + 1) (length (take (length c.as_flattened-bytes.result.now - 1) c.as_flattened-bytes.result.now))) (g.D.Disk.image c.args.disk.now) (g.D.Disk.image mid)
     → Passes (g.D.Disk.moment c.args.disk.now) (g.D.Disk.moment mid) (g.D.Disk.image_since c.args.disk.now) (g.D.Disk.image_since mid) (g.D.Disk.image mid)
-    → LeavesOnly g.D.Disk.moment g.D.Disk.image_since c.args.disk.now mid (StagedFrom c.args.layout.now c.args.head c.args.place (length c.args.groups.now) (g.D.Disk.image c.args.disk.now))
+    → LeavesOnly g.D.Disk.moment g.D.Disk.image_since c.args.disk.now mid (StagedFrom c.args.layout.now c.args.head c.args.place (length (groups_in c.args.units.now)) (g.D.Disk.image c.args.disk.now))
 first_moment g c told ge mid images time =
     let r = c.requires in
     let disk = c.args.disk.now in
-    let first = start c.args.layout.now c.args.head r.slot c.args.place c.args.groups.now r.room r.line r.some g.D.Disk disk (λ f left. g.met.D.Disk.only_now disk f told left) in
-    one_write c.args.layout.now c.args.head r.slot c.args.place c.args.groups.now r.room r.line r.some g.D.Disk disk disk mid first time (λ k left. one g c told ge mid images k k left (none_is_torn (log_offset 0) 1 k))
+    let first = start c.args.layout.now c.args.head r.slot c.args.place (groups_in c.args.units.now) r.room r.line r.some g.D.Disk disk (λ f left. g.met.D.Disk.only_now disk f told left) in
+    one_write c.args.layout.now c.args.head r.slot c.args.place (groups_in c.args.units.now) r.room r.line r.some g.D.Disk disk disk mid first time (λ k left. one g c told ge mid images k k left (none_is_torn (log_offset 0) 1 k))
 
 pub returns-in_err-write_at-clause-images : goal.returns-in_err-write_at-clause-images
-returns-in_err-write_at-clause-images g c told k left = one g (goal.at.returns-in_err-write_at-clause-images g c).After-log_at-at told (omega (arith, c.if-slot-groups.false)) c.write_at-2.new.self (c.write_at-2.ensures.images told) k k left (none_is_torn (log_offset 0) 1 k)
+returns-in_err-write_at-clause-images g c told k left = one g (goal.at.returns-in_err-write_at-clause-images g c).After-as_flattened-bytes told (omega (arith, c.if-slot-units.false)) c.write_at-2.new.self (c.write_at-2.ensures.images told) k k left (none_is_torn (log_offset 0) 1 k)
 
 pub returns-in_err-write_at-clause-any_moment : goal.returns-in_err-write_at-clause-any_moment
-returns-in_err-write_at-clause-any_moment g c told = first_moment g (goal.at.returns-in_err-write_at-clause-any_moment g c).After-log_at-at told (omega (arith, c.if-slot-groups.false)) c.write_at-2.new.self (c.write_at-2.ensures.images told) (c.write_at-2.ensures.time told)
+returns-in_err-write_at-clause-any_moment g c told = first_moment g (goal.at.returns-in_err-write_at-clause-any_moment g c).After-as_flattened-bytes told (omega (arith, c.if-slot-units.false)) c.write_at-2.new.self (c.write_at-2.ensures.images told) (c.write_at-2.ensures.time told)
 
 -- both writes
 pub returns-clause-written : goal.returns-clause-written
 returns-clause-written g c told =
     let r = c.requires in
-    let here = (goal.at.returns-clause-written g c).After-log_at-at in
-    let n = length c.args.groups.now in
+    let here = (goal.at.returns-clause-written g c).After-as_flattened-bytes in
+    let n = length (groups_in c.args.units.now) in
     let file = g.D.Disk.content c.args.disk.now in
     let mid = g.D.Disk.content c.write_at-2.new.self in
-    let buffer = c.fill_run.new.buffer in
-    let own = take (UNIT * n - 1) buffer in
+    let buffer = c.as_flattened-bytes.result.now in
+    let own = take (length buffer - 1) buffer in
     on_ok_weaker c.write_at-3.result
-    (λ is. round_written c.args.layout.now c.args.head r.slot c.args.place c.args.groups.now r.room r.line r.some file mid (g.D.Disk.content c.write_at-3.new.self) buffer own (0 ∷ []) (full g here (omega (arith, c.if-slot-groups.false))) (r.whole told) r.each (filled g here) refl
-    (cut g here (UNIT * n - 1) (omega arith)) (c.in_ok-write_at.ensures.written told ∙ ap (λ (i : ℕ). overwritten file i own) (at g here)) refl (is ∙ ap (λ (i : ℕ). overwritten mid i (0 ∷ [])) c.log_at.ensures))
+    (λ is. round_written c.args.layout.now c.args.head r.slot c.args.place (groups_in c.args.units.now) r.room r.line r.some file mid (g.D.Disk.content c.write_at-3.new.self) buffer own (0 ∷ []) (full g here (omega (arith, c.if-slot-units.false))) (r.whole told) r.each (filled g here) (ap (λ (k : ℕ). take (k - 1) buffer) (size g here))
+    (most g here) (c.in_ok-write_at.ensures.written told ∙ ap (λ (i : ℕ). overwritten file i own) (at g here)) refl (is ∙ ap (λ (i : ℕ). overwritten mid i (0 ∷ [])) c.log_at.ensures))
     (c.write_at-3.ensures.written told)
 
 pub returns-clause-images : goal.returns-clause-images
 returns-clause-images g c told k left =
     let from = c.write_at-3.ensures.images told k left in
-    one g (goal.at.returns-clause-images g c).After-log_at-at told (omega (arith, c.if-slot-groups.false)) c.write_at-2.new.self (c.write_at-2.ensures.images told) from.0 k from.1 (subst (λ (i : ℕ). Torn i 1 from.0 k) c.log_at.ensures from.2)
+    one g (goal.at.returns-clause-images g c).After-as_flattened-bytes told (omega (arith, c.if-slot-units.false)) c.write_at-2.new.self (c.write_at-2.ensures.images told) from.0 k from.1 (subst (λ (i : ℕ). Torn i 1 from.0 k) c.log_at.ensures from.2)
 
 pub returns-clause-any_moment : goal.returns-clause-any_moment
 returns-clause-any_moment g c told =
     let r = c.requires in
     let disk = c.args.disk.now in
-    let here = (goal.at.returns-clause-any_moment g c).After-log_at-at in
-    let ge : c.args.layout.now.log ≤ c.slot_behind-slot.result + length c.args.groups.now = omega (arith, c.if-slot-groups.false) in
+    let here = (goal.at.returns-clause-any_moment g c).After-as_flattened-bytes in
+    let ge : c.args.layout.now.log ≤ c.slot_behind-slot.result + length c.args.units.now = omega (arith, c.if-slot-units.false) in
     let mid = c.write_at-2.new.self in
-    one_write c.args.layout.now c.args.head r.slot c.args.place c.args.groups.now r.room r.line r.some g.D.Disk disk mid c.write_at-3.new.self (first_moment g here told ge mid (c.write_at-2.ensures.images told) (c.write_at-2.ensures.time told)) (c.write_at-3.ensures.time told)
+    one_write c.args.layout.now c.args.head r.slot c.args.place (groups_in c.args.units.now) r.room r.line r.some g.D.Disk disk mid c.write_at-3.new.self (first_moment g here told ge mid (c.write_at-2.ensures.images told) (c.write_at-2.ensures.time told)) (c.write_at-3.ensures.time told)
     (λ k left. let from = c.write_at-3.ensures.images told k left in one g here told ge mid (c.write_at-2.ensures.images told) from.0 k from.1 (subst (λ (i : ℕ). Torn i 1 from.0 k) c.log_at.ensures from.2))
 
 -- each write lies within the file
@@ -123,14 +130,14 @@ within at count f h n le long torn = omega (arith, le, long, torn.no_shorter, to
 pub returns-clause-whole : goal.returns-clause-whole
 returns-clause-whole g c told =
     let r = c.requires in
-    let here = (goal.at.returns-clause-whole g c).After-log_at-at in
-    let n = length c.args.groups.now in
+    let here = (goal.at.returns-clause-whole g c).After-as_flattened-bytes in
+    let n = length (groups_in c.args.units.now) in
     let file = g.D.Disk.content c.args.disk.now in
     let mid = g.D.Disk.content c.write_at-2.new.self in
     let new = g.D.Disk.content c.write_at-3.new.self in
-    let long = cut g here (UNIT * n - 1) (omega arith) in
+    let long = most g here in
     let first : length mid ≡ file_length c.args.layout.now =
-    ap length (c.in_ok-write_at.ensures.written told) ∙ length-overwritten file (c.log_at-at.result + 1) (take (UNIT * n - 1) c.fill_run.new.buffer) (omega (arith, r.whole told, long, at g here, r.line, r.some)) ∙ r.whole told in
+    ap length (c.in_ok-write_at.ensures.written told) ∙ length-overwritten file (c.log_at-at.result + 1) (take (length c.as_flattened-bytes.result.now - 1) c.as_flattened-bytes.result.now) (omega (arith, r.whole told, long, at g here, r.line, r.some)) ∙ r.whole told in
     ends c.write_at-3.result (λ is. ap length is ∙ length-overwritten mid c.log_at.result (0 ∷ []) (omega (arith, first, c.log_at.ensures)) ∙ first) (λ torn. within c.log_at.result 1 mid new (file_length c.args.layout.now) (omega (arith, c.log_at.ensures)) first torn) (c.write_at-3.ensures.written told) (c.write_at-3.ensures.torn told)
   where
     ends : {T E P Q R : Type 0} (r : Result T E) → (P → R) → (Q → R) → OnOk r P → OnErr r Q → R

@@ -1,12 +1,16 @@
-use Rattle.std.proofs.Common.{◌≡◌, ◌+◌, ◌<◌, ◌≤◌, ◌∙◌, Bool, true, false, List, ℕ, length, ap, sym, subst, arith, refl}
-use Rattle.std.specs.List.{AllByRecursion}
-use Rattle.rb_base.specs.Groups.{Patch}
+use Rattle.std.proofs.Common.{◌≡◌, ◌+◌, ◌-◌, ◌*◌, ◌++◌, ◌<◌, ◌≤◌, ◌∙◌, Result, Ok, Err, OnErr, Bool, true, false, List, ℕ, length, take, drop, ap, sym, subst, arith, refl}
+use Rattle.std.proofs.lemmas.List.{take_at}
+use Rattle.std.specs.Vec.{vec_capacity}
+use Rattle.rb_base.specs.declared.sizes.TheConstants.{UNIT}
 use Rattle.rb_log.specs.GroupLaws.{slot_below}
 use Rattle.rb_layout.specs.declared.layout.Head.{Head}
 use Rattle.rb_layout.specs.declared.layout.Layout.{Layout}
-use Rattle.rb_log.specs.GroupSlots.{IsLoggable, LogState}
 use Rattle.rb_log.specs.Slots.{slot_of}
-use Rattle.rb_log.proofs.ReadAhead.{filled_whole}
+use Rattle.rb_log.specs.WaitingUnits.{bodies_of, groups_of, IsLogMemory}
+use Rattle.rb_log.specs.declared.sizes.TheConstants.{FLUSH_BYTES}
+use Rattle.rb_log.proofs.WaitingLemmas.{first_bodies}
+use Rattle.rb_log.proofs.log.Log.flush.Given.{Over}
+use Rattle.rb_log.proofs.log.Log.flush.Goals.{After-write_groups}
 use Rattle.rb_log.proofs.log.Log.flush.Goals as goal
 
 within_flush : (scanned : Bool) (used count ahead log : ℕ) → (scanned ≡ true → ahead ≡ 0) → (scanned ≡ false → count ≡ 0) → used + count < log → used + ahead < log → used + count + ahead < log
@@ -22,19 +26,39 @@ pub invariant_of-self-2 : goal.invariant_of-self-2
 invariant_of-self-2 g c =
     let a = c.self.inside in
     let i = c.self.invariant in
-    let count : c.pending-count.result ≡ length a.pending.items = omega (arith, c.pending-count.ensures, ap (λ (s : LogState). length s.pending) c.self.view_is) in
-    let below : a.used + c.pending-count.result < a.layout.log = omega (arith, i.below, count) in
-    let unscanned : a.scanned ≡ false → c.pending-count.result ≡ 0 = λ is. let none = ap length (i.none is) in omega (arith, count, none) in
     record {
       slot = i.slot;
-      small = omega (arith, i.small, count, ap length c.clear.ensures.items);
-      below = omega (arith, i.below, count, ap length c.clear.ensures.items);
-      enough = omega (arith, i.enough, c.clear.ensures.capacity);
-      each = subst (λ (gs : List (List Patch)). AllByRecursion (IsLoggable a.layout) gs) (sym c.clear.ensures.items) tt;
-      none = λ is. c.clear.ensures.items;
-      units = ap length (filled_whole c.write_groups.new.buffer a.buffer.items a.buffer.len (omega (arith, c.write_groups.auto.buffer, c.deref_mut.ensures.len))) ∙ c.write_groups.ensures.buffer;
+      small = omega (arith, i.small);
+      below = omega (arith, i.below);
+      enough = i.enough;
+      counts = refl;
+      each = tt;
+      spelled = λ k d lt. absurd (omega (arith, lt));
+      none = λ is. refl;
+      units = i.units;
       few = i.few;
-      within = within_flush a.scanned a.used c.pending-count.result a.ahead a.layout.log i.ended unscanned below i.within;
-      in_line = in_line_flush a.scanned a.layout a.head a.used c.pending-count.result a.ahead i.ended unscanned i.slot below i.in_line;
+      within = within_flush a.scanned a.used a.waiting a.ahead a.layout.log i.ended i.none i.below i.within;
+      in_line = in_line_flush a.scanned a.layout a.head a.used a.waiting a.ahead i.ended i.none i.slot i.below i.in_line;
       ended = i.ended;
     }
+
+-- after an error the bodies that wait are those of before
+kept : (g : Over) (c : After-write_groups g) → let a = c.self.inside in bodies_of (take a.waiting (take a.units.len (c.write_groups.new.units ++ drop (length c.write_groups.new.units) a.units.items))) ≡ bodies_of (take a.waiting a.units.items)
+kept g c =
+    let a = c.self.inside in
+    ap (λ (units : List (List ℕ)). bodies_of (take a.waiting units)) (take_at c.write_groups.new.units (drop (length c.write_groups.new.units) a.units.items) a.units.len (omega (arith, c.write_groups.auto.units, c.deref_mut.ensures.len)))
+    ∙ first_bodies a.waiting a.units.items c.write_groups.new.units (c.write_groups.ensures.bodies ∙ ap bodies_of c.deref_mut.ensures.value)
+
+pub invariant_of-self : goal.invariant_of-self
+invariant_of-self g c =
+    let a = c.self.inside in
+    subst (λ (bodies : List (List ℕ)). IsLogMemory a.layout a.head a.used a.waiting bodies a.scanned a.buffer.items a.ahead (vec_capacity a.units)) (sym (kept g (goal.at.invariant_of-self g c).After-write_groups)) c.self.invariant
+
+on_err : {T E : Type 0} (r : Result T E) (P : Type 0) → P → OnErr r P
+on_err (Ok x) P holds = tt
+on_err (Err e) P holds = holds
+
+pub returns-in_err-write_groups-clause-stays : goal.returns-in_err-write_groups-clause-stays
+returns-in_err-write_groups-clause-stays g c =
+    let a = c.self.inside in
+    on_err c.from_residual.result _ (ap (λ (bodies : List (List ℕ)). record { layout = a.layout; head = a.head; used = a.used; pending = groups_of bodies; scanned = a.scanned; ahead = drop (FLUSH_BYTES - UNIT * a.ahead) a.buffer.items }) (kept g (goal.at.returns-in_err-write_groups-clause-stays g c).After-write_groups) ∙ c.self.view_is)

@@ -1,7 +1,8 @@
-use Rattle.std.proofs.Common.{◌≡◌, ◌+◌, ◌-◌, ◌<◌, ◌≤◌, ◌∙◌, true, ap, sym, subst, arith}
+use Rattle.std.proofs.Common.{◌≡◌, ◌+◌, ◌-◌, ◌<◌, ◌≤◌, ◌∙◌, true, ℕ, take, ap, sym, subst, arith}
 use Rattle.rb_log.specs.GroupLaws.{slot_below}
 use Rattle.rb_log.specs.GroupSlots.{LogState}
 use Rattle.rb_log.specs.Slots.{slot_of}
+use Rattle.rb_log.specs.WaitingUnits.{bodies_of, AreSpelled}
 use Rattle.rb_log.proofs.log.Log.release.Goals as goal
 
 pub invariant_of-self : goal.invariant_of-self
@@ -21,7 +22,9 @@ invariant_of-self c =
       small = omega (arith, i.small, lower, upper);
       below = omega (arith, i.below);
       enough = i.enough;
+      counts = i.counts;
       each = i.each;
+      spelled = subst (λ (n : ℕ). AreSpelled n (bodies_of (take a.waiting a.units.items))) (omega (arith, lower, upper)) i.spelled;
       none = i.none;
       units = i.units;
       few = i.few;

@@ -1,0 +1,50 @@
+//! The groups that wait for a flush, in units as they are written. `Log` puts them there, and its flush sets the gates
+//! between them.
+ghost use Rattle.std.specs.Prelude.{◌≡◌, ◌+◌, ◌-◌, ◌<◌, ◌≤◌, [], ◌∷◌, ◌++◌, ℕ, drop, length, take, min};
+ghost use Rattle.std.specs.Prelude.{slice_index, slice_index_or, vec_capacity};
+ghost use Rattle.rb_base.specs.Groups.{IsGroup};
+ghost use Rattle.rb_log.specs.GroupSlots.{group_unit};
+ghost use Rattle.rb_log.specs.WaitingUnits.{body_of, bodies_of};
+
+use crate::unit::{GROUP, LENGTH, NUMBER};
+use rb_base::{Group, UNIT, put_u16, put_u64};
+use rb_group::encode;
+
+/// Sees to it that there is a unit at a place, at most one behind those that are there. It keeps those in front.
+pub(crate) fn reach(units: &mut Vec<[u8; UNIT]>, place: usize)
+    requires near { place ≤ length units.old.items }
+    requires room { place < vec_capacity units.old }
+    ensures there { place < length units.new.items }
+    ensures kept { take place units.new.items ≡ take place units.old.items }
+    ensures capacity { vec_capacity units.new ≡ vec_capacity units.old }
+{
+    if place == units.as_slice().len() {
+        units.push_reserved([0; UNIT]);
+    }
+}
+
+/// Fills a unit with a group's, all but its own gate, and a closed gate after it.
+pub(crate) fn put_body(bytes: &mut [u8], number: u64, group: &Group)
+    requires whole { length bytes.old ≡ UNIT }
+    requires valid { IsGroup group.now }
+    requires some { 0 < length group.now }
+    ensures { bytes.new ≡ drop 1 (group_unit 0 number group.now) ++ 0 ∷ [] }
+{
+    bytes.fill(0);
+    let length = encode(group, &mut bytes[GROUP - 1..UNIT - 1]);
+    put_u16(bytes, LENGTH - 1, length as u16);
+    put_u64(bytes, NUMBER - 1, number);
+}
+
+/// Sets the gate after each unit of a run: it is open where one of the run follows.
+pub(crate) fn set_gates(units: &mut [[u8; UNIT]])
+    ensures bodies { bodies_of units.new ≡ bodies_of units.old }
+    ensures gates { (k : ℕ) → k < length units.old
+        → slice_index (slice_index_or units.new k []) (UNIT - 1) ≡ min 1 (length units.old - (k + 1)) }
+    ensures whole { (k : ℕ) → k < length units.new → length (slice_index_or units.new k []) ≡ UNIT }
+{
+    let count = units.len();
+    for i in 0..count {
+        units[i][UNIT - 1] = u8::from(i + 1 < count);
+    }
+}
