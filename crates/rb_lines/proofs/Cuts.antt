@@ -1,6 +1,7 @@
 -- Cutting bytes into lines, piece by piece and at once.
-use Rattle.std.proofs.Common.{◌≡◌, ℕ, ◌<◌, ◌≤◌, ◌==◌, true, false, List, [], ◌∷◌, ◌++◌, length, take, if◌then◌else◌, refl, sym, ◌∙◌, ap, arith, append_assoc, append-nil, length-append, length-take}
-use Rattle.std.proofs.lemmas.List.{take_all, take-append-le}
+use Rattle.std.proofs.Common.{◌≡◌, ℕ, zero, suc, ◌+◌, ◌-◌, ◌<◌, ◌≤◌, ◌==◌, min, Bool, true, false, List, [], ◌∷◌, ◌++◌, length, take, get_or, if◌then◌else◌, refl, sym, ◌∙◌, ap, arith, append_assoc, append-nil, length-take, get_or-take}
+use Rattle.std.proofs.lemmas.List.{take_min, take_more}
+use Rattle.std.proofs.lemmas.Bool.{eqb-true}
 use Rattle.rb_model.specs.Lines.{lines_of, onto_first}
 use Rattle.rb_lines.specs.Whole.{whole_lines, onto_whole}
 use Rattle.rb_lines.specs.Pieces.{lines_from, rest_from, last_of}
@@ -76,15 +77,82 @@ whole_from line (b ∷ bytes) =
 pub whole_lines-pieces : (bytes : List ℕ) → lines_from [] bytes ≡ whole_lines bytes
 whole_lines-pieces bytes = whole_from [] bytes ∙ onto_next-nil (whole_lines bytes)
 
--- one more byte in the front of a line
-pub front_grows : (n b : ℕ) (line kept : List ℕ) → kept ≡ take n line → length kept < n → kept ++ b ∷ [] ≡ take n (line ++ b ∷ [])
-front_grows n b line kept e lt =
-    let short : length line < n = omega (arith, ap length e, length-take n line) in
-    let more : length (line ++ b ∷ []) ≤ n = omega (arith, length-append line (b ∷ [])) in
-    ap (λ (l : List ℕ). l ++ b ∷ []) (e ∙ take_all n line (omega arith)) ∙ sym (take_all n (line ++ b ∷ []) more)
+-- the front of two lists, one behind the other
+front_of_both : (n : ℕ) (xs ys : List ℕ) → take n (xs ++ ys) ≡ take n xs ++ take (n - length xs) ys
+front_of_both zero xs ys = let none : 0 - length xs ≡ 0 = omega arith in rw none refl
+front_of_both (suc n) [] ys = let all : suc n - 0 ≡ suc n = omega arith in rw all refl
+front_of_both (suc n) (x ∷ xs) ys =
+    let less : suc n - suc (length xs) ≡ n - length xs = omega arith in
+    ap (λ (l : List ℕ). x ∷ l) (front_of_both n xs ys ∙ ap (λ (k : ℕ). take n xs ++ take k ys) (sym less))
 
--- or none, where it is full
-pub front_full : (n b : ℕ) (line kept : List ℕ) → kept ≡ take n line → n ≤ length kept → kept ≡ take n (line ++ b ∷ [])
-front_full n b line kept e full =
-    let long : n ≤ length line = omega (arith, ap length e, length-take n line) in
-    e ∙ sym (take-append-le n line (b ∷ []) long)
+-- more bytes in the front of a line, as far as they go
+pub front_more : (n size : ℕ) (line kept bytes : List ℕ) → kept ≡ take n line → size + length kept ≡ n
+    → kept ++ take (min size (length bytes)) bytes ≡ take n (line ++ bytes)
+front_more n size line kept bytes e fits =
+    let room : size ≡ n - length line = omega (arith, ap length e, length-take n line) in
+    ap (λ (l : List ℕ). kept ++ l) (take_min size bytes)
+    ∙ ap (λ (l : List ℕ). l ++ take size bytes) e
+    ∙ ap (λ (k : ℕ). take n line ++ take k bytes) room
+    ∙ sym (front_of_both n line bytes)
+
+-- bytes of which none is LF
+abbrev pub NoEnd : List ℕ → Type 0
+NoEnd bytes = (k : ℕ) → k < length bytes → (get_or bytes k 0 == 10) ≡ true → ⊥
+
+is_false : (v : Bool) → (v ≡ true → ⊥) → v ≡ false
+is_false true h = absurd (h refl)
+is_false false h = refl
+
+no_end_next : (b : ℕ) (bytes : List ℕ) → NoEnd (b ∷ bytes) → NoEnd bytes
+no_end_next b bytes none k within is = none (suc k) (omega arith) is
+
+-- so where none is found
+pub no_end_all : (bytes : List ℕ) → ((k : ℕ) → 0 ≤ k → k < length bytes → (get_or bytes k 0 == 10) ≡ true → ⊥) → NoEnd bytes
+no_end_all bytes none k within is = none k (omega arith) within is
+
+-- They end no line
+pub lines_no_end : (line bytes : List ℕ) → NoEnd bytes → lines_from line bytes ≡ []
+lines_no_end line [] none = refl
+lines_no_end line (b ∷ bytes) none =
+    let no : (b == 10) ≡ false = is_false (b == 10) (none 0 (omega arith)) in
+    ap (λ (v : Bool). if v then line ∷ lines_from [] bytes else lines_from (line ++ b ∷ []) bytes) no
+    ∙ lines_no_end (line ++ b ∷ []) bytes (no_end_next b bytes none)
+
+-- and stand in the one under way.
+pub rest_no_end : (line bytes : List ℕ) → NoEnd bytes → rest_from line bytes ≡ line ++ bytes
+rest_no_end line [] none = sym (append-nil line)
+rest_no_end line (b ∷ bytes) none =
+    let no : (b == 10) ≡ false = is_false (b == 10) (none 0 (omega arith)) in
+    ap (λ (v : Bool). if v then rest_from [] bytes else rest_from (line ++ b ∷ []) bytes) no
+    ∙ rest_no_end (line ++ b ∷ []) bytes (no_end_next b bytes none) ∙ append_assoc line (b ∷ []) bytes
+
+-- An end comes behind so many bytes.
+pub record EndsAt (bytes : List ℕ) (size : ℕ) : Type 0 where
+  pub within : size < length bytes
+  pub none : NoEnd (take size bytes)
+  pub ended : get_or bytes size 0 ≡ 10
+
+pub ends_at : (bytes : List ℕ) (size : ℕ) → size < length bytes
+    → ((k : ℕ) → 0 ≤ k → k < size → (get_or bytes k 0 == 10) ≡ true → ⊥) → (get_or bytes size 0 == 10) ≡ true → EndsAt bytes size
+ends_at bytes size within before is = record {
+  within = within;
+  none = λ k lt at.
+      let below : k < size = omega (arith, length-take size bytes) in
+      before k (omega arith) below (ap (λ (b : ℕ). b == 10) (sym (get_or-take size bytes k 0 below)) ∙ at);
+  ended = eqb-true (get_or bytes size 0) 10 is;
+}
+
+-- the line that ends there
+pub lines_end : (line bytes : List ℕ) (size : ℕ) → EndsAt bytes size → lines_from line (take (size + 1) bytes) ≡ (line ++ take size bytes) ∷ []
+lines_end line bytes size e =
+    ap (λ (l : List ℕ). lines_from line l) (take_more bytes size 0 e.within)
+    ∙ ap (λ (b : ℕ). lines_from line (take size bytes ++ b ∷ [])) e.ended
+    ∙ lines-append line (take size bytes) (10 ∷ [])
+    ∙ ap (λ (ls : List (List ℕ)). ls ++ lines_from (rest_from line (take size bytes)) (10 ∷ [])) (lines_no_end line (take size bytes) e.none)
+    ∙ ap (λ (l : List ℕ). l ∷ []) (rest_no_end line (take size bytes) e.none)
+
+pub rest_end : (line bytes : List ℕ) (size : ℕ) → EndsAt bytes size → rest_from line (take (size + 1) bytes) ≡ []
+rest_end line bytes size e =
+    ap (λ (l : List ℕ). rest_from line l) (take_more bytes size 0 e.within)
+    ∙ ap (λ (b : ℕ). rest_from line (take size bytes ++ b ∷ [])) e.ended
+    ∙ rest-append line (take size bytes) (10 ∷ [])

@@ -10,19 +10,19 @@ use Rattle.rb_lines.proofs.Outs.{front_out, front_begun, one_out, append_out, st
 pub ran_none : (outside : Outside) (h : Logged) (tells : Type 0) (held : List ℕ) → Ran outside h h [] tells held held
 ran_none outside h tells held = record { out = []; replies = (refl, refl); written = λ t. sym (append-nil held) }
 
--- a line of which the runner had the front
-pub ran_one : (outside : Outside) (h h2 : Logged) (line front : List ℕ) (tells : Type 0) (held held2 : List ℕ)
-    → front ≡ take 513 line → Replied (LineOut h outside front) h2 tells held held2 → Ran outside h h2 (line ∷ []) tells held held2
-ran_one outside h h2 line front tells held held2 e r = record {
+-- one line
+ran_one : (outside : Outside) (h h2 : Logged) (line : List ℕ) (tells : Type 0) (held held2 : List ℕ)
+    → Replied (LineOut h outside line) h2 tells held held2 → Ran outside h h2 (line ∷ []) tells held held2
+ran_one outside h h2 line tells held held2 r = record {
   out = r.out;
-  replies = one_out h outside line r.out h2 (front_out h outside line front r.out h2 e r.reply);
+  replies = one_out h outside line r.out h2 r.reply;
   written = r.written;
 }
 
--- one that was cut off, of which it had the front
-pub cut_one : (outside : Outside) (h h2 : Logged) (line front : List ℕ) (held held2 : List ℕ)
-    → h.state.stopped ≡ false → front ≡ take 513 line → CutShort (LineBegun h outside front) h2 held held2 → CutIn outside h h2 (line ∷ []) held held2
-cut_one outside h h2 line front held held2 going e r = record {
+-- one that was cut off
+cut_one : (outside : Outside) (h h2 : Logged) (line : List ℕ) (held held2 : List ℕ)
+    → h.state.stopped ≡ false → CutShort (LineBegun h outside line) h2 held held2 → CutIn outside h h2 (line ∷ []) held held2
+cut_one outside h h2 line held held2 going r = record {
   done = [];
   line = line;
   more = [];
@@ -31,7 +31,7 @@ cut_one outside h h2 line front held held2 going e r = record {
   held = held;
   ran = ran_none outside h (Unit {0}) held;
   going = going;
-  cut = record { out = r.out; reply = front_begun h outside line front r.out h2 e r.reply; size = r.size; written = r.written };
+  cut = r;
 }
 
 pub ran-append : (outside : Outside) (h m h2 : Logged) (xs ys : List (List ℕ)) (tells : Type 0) (held held1 held2 : List ℕ)
@@ -76,13 +76,36 @@ cut_more outside h h2 xs ys held held2 q = record {
   cut = q.cut;
 }
 
--- A step over the front of a line, as its clause tells it.
+-- A step over a line, as its clause tells it.
+pub step_whole : (outside : Outside) (h h2 : Logged) (line : List ℕ) (tells : Type 0) (held held2 : List ℕ) (result : Result (Unit {0}) StepFault)
+    → h.state.stopped ≡ false → LineRanAs outside h h2 line tells held held2 result → RanAs outside h h2 (line ∷ []) tells held held2 result
+step_whole outside h h2 line tells held held2 (Ok done) going ran = (ran_one outside h h2 line tells held held2 ran.0, ran.1)
+step_whole outside h h2 line tells held held2 (Err Disk) going ran = (ran_one outside h h2 line tells held held2 ran.0, ran.1)
+step_whole outside h h2 line tells held held2 (Err Sink) going cut = λ t. cut_one outside h h2 line held held2 going (cut t)
+
+front_replied : (outside : Outside) (h h2 : Logged) (line front : List ℕ) (tells : Type 0) (held held2 : List ℕ)
+    → front ≡ take 513 line → Replied (LineOut h outside front) h2 tells held held2 → Replied (LineOut h outside line) h2 tells held held2
+front_replied outside h h2 line front tells held held2 e r = record {
+  out = r.out;
+  reply = front_out h outside line front r.out h2 e r.reply;
+  written = r.written;
+}
+
+-- The front of a line is done as the line is.
+front_as : (outside : Outside) (h h2 : Logged) (line front : List ℕ) (tells : Type 0) (held held2 : List ℕ) (result : Result (Unit {0}) StepFault)
+    → front ≡ take 513 line → LineRanAs outside h h2 front tells held held2 result → LineRanAs outside h h2 line tells held held2 result
+front_as outside h h2 line front tells held held2 (Ok done) e ran = (front_replied outside h h2 line front tells held held2 e ran.0, ran.1)
+front_as outside h h2 line front tells held held2 (Err Disk) e ran = (front_replied outside h h2 line front tells held held2 e ran.0, ran.1)
+front_as outside h h2 line front tells held held2 (Err Sink) e cut = λ t.
+    let r = cut t in
+    record { out = r.out; reply = front_begun h outside line front r.out h2 e r.reply; size = r.size; written = r.written }
+
+-- a step over the front of a line
 pub step_as : (outside : Outside) (h h2 : Logged) (line front : List ℕ) (tells : Type 0) (held held2 : List ℕ) (result : Result (Unit {0}) StepFault)
     → h.state.stopped ≡ false → front ≡ take 513 line → LineRanAs outside h h2 front tells held held2 result
     → RanAs outside h h2 (line ∷ []) tells held held2 result
-step_as outside h h2 line front tells held held2 (Ok done) going e ran = (ran_one outside h h2 line front tells held held2 e ran.0, ran.1)
-step_as outside h h2 line front tells held held2 (Err Disk) going e ran = (ran_one outside h h2 line front tells held held2 e ran.0, ran.1)
-step_as outside h h2 line front tells held held2 (Err Sink) going e cut = λ t. cut_one outside h h2 line front held held2 going e (cut t)
+step_as outside h h2 line front tells held held2 result going e ran =
+    step_whole outside h h2 line tells held held2 result going (front_as outside h h2 line front tells held held2 result e ran)
 
 -- lines that were done, and then more of them
 pub as-append : (outside : Outside) (h m h2 : Logged) (xs ys : List (List ℕ)) (tells : Type 0) (held held1 held2 : List ℕ) (result : Result (Unit {0}) StepFault)

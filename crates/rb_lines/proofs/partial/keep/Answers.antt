@@ -1,15 +1,10 @@
-use Rattle.std.proofs.Common.{◌<◌, ◌∙◌, sym, length, arith}
-use Rattle.std.proofs.lemmas.Bool.{eqb-false, eqb-true}
-use Rattle.rb_lines.proofs.Cuts.{front_grows, front_full}
+use Rattle.std.proofs.Common.{◌≡◌, ◌∙◌, ◌++◌, ℕ, ap, take, arith}
+use Rattle.std.proofs.lemmas.Grind.{common_steps}
+use Rattle.rb_lines.proofs.Cuts.{front_more}
 use Rattle.rb_lines.proofs.partial.keep.Goals as goal
 
-pub returns-then-not-is_full : goal.returns-then-not-is_full
-returns-then-not-is_full c = λ line e.
-    let f = eqb-false (length c.args.partial.now.items) 513 (sym c.is_full.ensures.value ∙ c.if-not-is_full.true) in
-    let room : length c.args.partial.now.items < 513 = omega (arith, f, c.is_full.ensures.fits) in
-    c.push.ensures.items ∙ front_grows 513 c.args.byte line c.args.partial.now.items e room
-
-pub returns-else-not-is_full : goal.returns-else-not-is_full
-returns-else-not-is_full c = λ line e.
-    let f = eqb-true (length c.args.partial.now.items) 513 (sym c.is_full.ensures.value ∙ c.if-not-is_full.false) in
-    front_full 513 c.args.byte line c.args.partial.now.items e (omega (arith, f))
+pub returns : goal.returns
+returns c = λ line e.
+    let added : c.try_extend_from_slice.new.self.items ≡ c.args.partial.now.items ++ take c.min-size.result c.args.bytes.now = grind (arith, common_steps) in
+    added ∙ ap (λ (n : ℕ). c.args.partial.now.items ++ take n c.args.bytes.now) c.min-size.ensures
+    ∙ front_more 513 c.remaining_capacity.result line c.args.partial.now.items c.args.bytes.now e c.remaining_capacity.ensures
