@@ -5,7 +5,7 @@ ghost use Rattle.rb_model.specs.Lines.{caller_text};
 ghost use Rattle.arrayvec.specs.ArrayVec.{array_vec_len};
 ghost use Rattle.rb_script.specs.Replies.{text_of_reply, FitsALine};
 
-use crate::text::{Line, put, put_number, put_part};
+use crate::text::{put, put_number, put_part};
 use arrayvec::ArrayVec;
 use rb_model::Refusal;
 
@@ -35,23 +35,28 @@ pub enum Reply<'a> {
 }
 
 // Puts the session that a reply is to, if there is one, and a space
-fn put_caller(s: Option<u16>, into: &mut Line)
-    requires { into.old.items ≡ [] }
-    ensures items { into.new.items ≡ caller_text s }
-    ensures len { array_vec_len into.new ≤ 21 }
+fn put_caller<const SIZE: usize>(s: Option<u16>, into: &mut ArrayVec<u8, SIZE>)
+    requires { array_vec_len into.old + 21 ≤ SIZE }
+    ensures items { into.new.items ≡ into.old.items ++ caller_text s }
+    ensures len { array_vec_len into.new ≤ array_vec_len into.old + 21 }
 {
     if let Some(s) = s {
         put_number(u64::from(s), into);
-        put(b" ", into);
+        into.push(b' ');
     }
 }
 
 // Puts a word that tells a commit's number, to a session or to none
-fn put_numbered(s: Option<u16>, word: &[u8], number: u64, into: &mut Line)
-    requires empty { into.old.items ≡ [] }
+fn put_numbered<const SIZE: usize>(
+    s: Option<u16>,
+    word: &[u8],
+    number: u64,
+    into: &mut ArrayVec<u8, SIZE>,
+)
     requires short { length word.now ≤ 9 }
-    ensures items { into.new.items ≡ caller_text s ++ (word.now ++ number_text number) }
-    ensures room { array_vec_len into.new ≤ 511 }
+    requires room { array_vec_len into.old + 51 ≤ SIZE }
+    ensures items { into.new.items ≡ into.old.items ++ (caller_text s ++ (word.now ++ number_text number)) }
+    ensures len { array_vec_len into.new ≤ array_vec_len into.old + 51 }
 {
     put_caller(s, into);
     put(word, into);
@@ -59,8 +64,8 @@ fn put_numbered(s: Option<u16>, word: &[u8], number: u64, into: &mut Line)
 }
 
 // Appends the text of a refusal
-fn put_refusal(why: Refusal, into: &mut Line)
-    requires { array_vec_len into.old + 74 ≤ 512 }
+fn put_refusal<const SIZE: usize>(why: Refusal, into: &mut ArrayVec<u8, SIZE>)
+    requires { array_vec_len into.old + 74 ≤ SIZE }
     ensures items { into.new.items ≡ into.old.items ++ refusal_text why }
     ensures len { array_vec_len into.new ≤ array_vec_len into.old + 74 }
 {
@@ -84,11 +89,11 @@ fn put_refusal(why: Refusal, into: &mut Line)
 }
 
 // Puts all but the LF
-fn put_reply(reply: &Reply<'_>, into: &mut Line)
-    requires empty { into.old.items ≡ [] }
+fn put_reply<const SIZE: usize>(reply: &Reply<'_>, into: &mut ArrayVec<u8, SIZE>)
     requires fits { FitsALine reply.now }
-    ensures text { into.new.items ++ 10 ∷ [] ≡ text_of_reply reply.now }
-    ensures room { array_vec_len into.new ≤ 511 }
+    requires room { array_vec_len into.old + 511 ≤ SIZE }
+    ensures text { into.new.items ++ 10 ∷ [] ≡ into.old.items ++ text_of_reply reply.now }
+    ensures len { array_vec_len into.new ≤ array_vec_len into.old + 511 }
 {
     match *reply {
         Reply::Done { s } => {
@@ -102,7 +107,7 @@ fn put_reply(reply: &Reply<'_>, into: &mut Line)
             put_caller(Some(s), into);
             put(b"row", into);
             put_part(key, into);
-            put(b" ", into);
+            into.push(b' ');
             put(value, into);
         }
         Reply::End { s } => {
@@ -130,11 +135,12 @@ fn put_reply(reply: &Reply<'_>, into: &mut Line)
     }
 }
 
-/// Writes the line of the reply, with its LF, into an empty `into`. A row's value has at most 80 bytes.
-pub fn print(reply: &Reply<'_>, into: &mut ArrayVec<u8, 512>)
-    requires empty { into.old.items ≡ [] }
+/// Appends the line of the reply, with its LF, which has room for 512 bytes. A row's value has at most 80 bytes.
+pub fn print<const SIZE: usize>(reply: &Reply<'_>, into: &mut ArrayVec<u8, SIZE>)
     requires fits { FitsALine reply.now }
-    ensures { into.new.items ≡ text_of_reply reply.now }
+    requires room { array_vec_len into.old + 512 ≤ SIZE }
+    ensures text { into.new.items ≡ into.old.items ++ text_of_reply reply.now }
+    ensures len { array_vec_len into.new ≤ array_vec_len into.old + 512 }
 {
     put_reply(reply, into);
     into.push(b'\n');

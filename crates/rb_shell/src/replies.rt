@@ -127,10 +127,7 @@ fn keep(reply: &Reply<'_>, waiting: &mut Waiting)
     ensures items { waiting.new.bytes.items ≡ waiting.old.bytes.items ++ text_of_reply reply.now }
     ensures len { array_vec_len waiting.new.bytes ≤ array_vec_len waiting.old.bytes + REPLY_BYTES }
 {
-    let mut text = ArrayVec::new();
-    print(reply, &mut text);
-    let fits = waiting.bytes.try_extend_from_slice(text.as_slice()).is_ok();
-    prove!(fits);
+    print(reply, &mut waiting.bytes);
 }
 
 /// Adds the text of a reply to what waits, which is sent first where it leaves no room.

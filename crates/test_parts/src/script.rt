@@ -263,7 +263,7 @@ fn prints(reply: &Reply<'_>, text: &[u8]) -> bool {
             return false;
         }
     }
-    let mut line = ArrayVec::new();
+    let mut line = ArrayVec::<u8, 512>::new();
     print(reply, &mut line);
     line.as_slice() == text
 }

@@ -158,7 +158,7 @@ fn add_reply<S: Store>(
         key: 0,
         value: ArrayVec::new(),
     };
-    let mut text = ArrayVec::new();
+    let mut text = ArrayVec::<u8, 512>::new();
     let reply = called(engine, line, &mut row);
     if let Reply::Row { value, .. } = &reply {
         if value.len() > 80 {

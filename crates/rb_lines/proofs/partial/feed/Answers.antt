@@ -46,8 +46,8 @@ loop-size-preserved g c =
         taken ++ take (c.in-Some.size + 1) rest,
         split_more c.args.bytes.now taken rest (c.in-Some.size + 1) i.fed.1,
         (λ m line is going e. did_on c.args.runner.now c.loop-size.runner c.end_line.new.runner m _ _ _ g.met.M.LineRunner.since_joined (i.fed.2 m line is going e) (λ n so_far. so_far.1)
-        (λ n reached on. o.did n (rest_from line taken) reached on (i.fed.3 line e))
-        (λ n k so_far next. as_line (outside_by g.M.LineRunner.worn g.M.LineRunner.makes) m n k line taken rest c.in-Some.size g.K.Sink.tells _ _ _ (Ok tt) ends so_far.0 so_far.1 next)),
+            (λ n reached on. o.did n (rest_from line taken) reached on (i.fed.3 line e))
+            (λ n k so_far next. as_line (outside_by g.M.LineRunner.worn g.M.LineRunner.makes) m n k line taken rest c.in-Some.size g.K.Sink.tells _ _ _ (Ok tt) ends so_far.0 so_far.1 next)),
         λ line e. o.kept ∙ sym (ap (λ (l : List ℕ). take 513 l) (none_under_way line taken rest c.in-Some.size ends)),
       );
       disk = o.disk.still refl refl ∙ i.disk;
