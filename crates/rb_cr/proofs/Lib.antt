@@ -14,7 +14,9 @@ pub mod Overlays
 pub mod Rebuilding
 pub mod Rooms
 pub mod Seeing
+pub mod Settled
 pub mod Sharing
 pub mod Shown
 pub mod Stepping
 pub mod Tops
+pub mod Values

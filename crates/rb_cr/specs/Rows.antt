@@ -3,6 +3,7 @@ use Rattle.std.specs.Prelude.{◌≡◌, ◌<◌, ◌≤◌, ◌==◌, ℕ, if�
 use Rattle.std.specs.Prelude.{List, [], ◌∷◌, get_or, length, map, Option, Some, None}
 use Rattle.rb_cell.specs.declared.cell.Cell.{Cell}
 use Rattle.rb_cell.specs.declared.cell.TheConstants.{ROW}
+use Rattle.rb_cr.specs.declared.plain.KeyCell.{KeyCell}
 use Rattle.rb_heap.specs.Homes.{empty_cell, home_of}
 use Rattle.rb_model.specs.declared.row.Row.{Row}
 use Rattle.law_read.specs.Keeping.{Kept}
@@ -41,19 +42,20 @@ cell_rows cells = rows_in (map walk_cell cells)
 abbrev pub block_rows : List ℕ → Rows
 block_rows block = cell_rows (home_of block).cells
 
--- the cell shows the row of its key, which is wanted: none before it has one of that key
-pub record ShowsWanted (after : Option ℕ) (lo hi : ℕ) (cells : List Cell) (c : ℕ) : Type 0 where
-  pub there : c < length cells
-  pub state : (get_or cells c empty_cell).state ≡ ROW
-  pub wanted : IsWanted after lo hi (get_or cells c empty_cell).key
-  pub first : (j : ℕ) → j < c → (get_or cells j empty_cell).state ≡ ROW
-      → (get_or cells j empty_cell).key ≡ (get_or cells c empty_cell).key → ⊥
+-- the cell shows the row of that key, which is wanted: none before it has one of it
+pub record ShowsWanted (after : Option ℕ) (lo hi : ℕ) (cells : List Cell) (one : KeyCell) : Type 0 where
+  pub there : one.cell < length cells
+  pub state : (get_or cells one.cell empty_cell).state ≡ ROW
+  pub key : (get_or cells one.cell empty_cell).key ≡ one.key
+  pub wanted : IsWanted after lo hi one.key
+  pub first : (j : ℕ) → j < one.cell → (get_or cells j empty_cell).state ≡ ROW
+      → (get_or cells j empty_cell).key ≡ one.key → ⊥
 
 -- of the first n cells, each with a row that is wanted has no lesser key than the one that was found
-abbrev pub NoneLesser : Option ℕ → ℕ → ℕ → List Cell → ℕ → Option ℕ → Type 0
+abbrev pub NoneLesser : Option ℕ → ℕ → ℕ → List Cell → ℕ → Option KeyCell → Type 0
 NoneLesser after lo hi cells n found = (j : ℕ) → j < n → (get_or cells j empty_cell).state ≡ ROW
     → IsWanted after lo hi (get_or cells j empty_cell).key
-    → (c : ℕ) × (found ≡ Some c) × ((get_or cells c empty_cell).key ≤ (get_or cells j empty_cell).key)
+    → (one : KeyCell) × (found ≡ Some one) × (one.key ≤ (get_or cells j empty_cell).key)
 
 -- the key of the row that was kept as the i-th, from 0 on
 abbrev pub kept_key : Kept → ℕ → ℕ

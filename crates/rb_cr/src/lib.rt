@@ -21,6 +21,7 @@ mod segments;
 mod shared;
 mod steps;
 mod stores;
+mod told;
 mod visible;
 mod watch;
 
@@ -36,3 +37,4 @@ pub use scratch::{Scratch, Snapshot};
 pub use segments::Segments;
 pub use shared::build_with;
 pub use steps::Steps;
+pub use told::next_told;

@@ -1,17 +1,24 @@
-//! The rows of a home as its cells stand, in the order of their keys. `next_at` reads them so where no change of the
-//! block is above the snapshot, and from a home that is kept at the snapshot.
-ghost use Rattle.std.specs.Prelude.{◌≡◌, ◌<◌, ◌+◌, ℕ, List, true, false, get_or, length, None, IfSome};
+//! The rows of a home as its cells stand, in the order of their keys. `next_told` and `next_at` read them so where no
+//! change of the block is above the snapshot, and `next_at` from a home that is kept at the snapshot.
+ghost use Rattle.std.specs.Prelude.{◌≡◌, ◌<◌, ◌≤◌, ◌+◌, ℕ, List, true, false, get_or, length, None, IfSome};
 ghost use Rattle.rb_base.specs.declared.sizes.TheConstants.{UNIT};
 ghost use Rattle.rb_cr.specs.Rows.{IsNext, IsWanted, NoneLesser, ShowsWanted, cell_rows};
+ghost use Rattle.rb_cell.specs.Cells.{cell_at};
 ghost use Rattle.rb_cell.specs.declared.cell.Cell.{Cell};
 ghost use Rattle.rb_heap.specs.Homes.{empty_cell, home_of};
 
-use crate::kept::copied;
 use crate::rows::Wanted;
 use arrayvec::ArrayVec;
 use rb_base::{UNIT, VALUE_BYTES};
-use rb_cell::{CELLS, Cell, CellFront, ROW, cells, front};
+use rb_cell::{CELL_BYTES, CELLS, Cell, CellFront, ROW, cell_place, front, value_length};
 use rb_model::Row;
+
+/// A cell with a row, and the key of that.
+#[derive(Clone, Copy)]
+pub(crate) struct KeyCell {
+    cell: usize,
+    key: u64,
+}
 
 /// Cells whose rows are read as they stand.
 pub(crate) trait PlainCells {
@@ -33,11 +40,24 @@ pub(crate) trait PlainCells {
         ensures state { result.state ≡ (get_or (all self.now) c empty_cell).state }
         ensures key { result.key ≡ (get_or (all self.now) c empty_cell).key };
 
-    /// The value of cell `c`.
-    fn value(&self, c: usize) -> ArrayVec<u8, VALUE_BYTES>
+    /// The bytes of the value of cell `c`.
+    fn value(&self, c: usize) -> &[u8]
         requires ready { ready self.now }
         requires within { c < length (all self.now) }
-        ensures { result.items ≡ (get_or (all self.now) c empty_cell).value.items };
+        ensures bytes { result.now ≡ (get_or (all self.now) c empty_cell).value.items }
+        ensures short { length result.now ≤ VALUE_BYTES };
+}
+
+/// The bytes of the value of cell `c` of a block, in their place. Where the length says more than 80, they are all 80.
+fn value_at(block: &[u8], c: u8) -> &[u8]
+    requires length { length block.now ≡ UNIT }
+    requires within { c < CELLS }
+    ensures bytes { result.now ≡ (cell_at block.now c).value.items }
+    ensures short { length result.now ≤ VALUE_BYTES }
+{
+    let length = (value_length(block, c) as usize).min(VALUE_BYTES);
+    let at = cell_place(c) + CELL_BYTES - VALUE_BYTES;
+    &block[at..at + length]
 }
 
 /// A block of rows as its cells.
@@ -59,8 +79,8 @@ impl<'a> PlainCells for BlockCells<'a> {
         front(self.block, c as u8)
     }
 
-    fn value(&self, c: usize) -> ArrayVec<u8, VALUE_BYTES> {
-        cells(self.block, c as u8).value
+    fn value(&self, c: usize) -> &[u8] {
+        value_at(self.block, c as u8)
     }
 }
 
@@ -88,8 +108,8 @@ impl<'a> PlainCells for HomeCells<'a> {
         }
     }
 
-    fn value(&self, c: usize) -> ArrayVec<u8, VALUE_BYTES> {
-        copied(&self.cells[c].value)
+    fn value(&self, c: usize) -> &[u8] {
+        self.cells[c].value.as_slice()
     }
 }
 
@@ -97,10 +117,10 @@ impl<'a> PlainCells for HomeCells<'a> {
 /// was, and `c`, where that holds a row that is asked for.
 fn lesser_at<C: PlainCells>(
     cells: &C,
-    found: Option<usize>,
+    found: Option<KeyCell>,
     c: usize,
     wanted: Wanted,
-) -> Option<usize>
+) -> Option<KeyCell>
     requires ready { C.ready cells.now }
     requires within { c < length (C.all cells.now) }
     requires found { IfSome found (ShowsWanted wanted.after wanted.lo wanted.hi (C.all cells.now)) }
@@ -113,13 +133,16 @@ fn lesser_at<C: PlainCells>(
         return found;
     }
     match found {
-        Some(least) if cells.front(least).key <= head.key => found,
-        _ => Some(c),
+        Some(least) if least.key <= head.key => found,
+        _ => Some(KeyCell {
+            cell: c,
+            key: head.key,
+        }),
     }
 }
 
 /// The cell with the row of the least key that is asked for.
-fn least_at<C: PlainCells>(cells: &C, wanted: Wanted) -> Option<usize>
+fn least_at<C: PlainCells>(cells: &C, wanted: Wanted) -> Option<KeyCell>
     requires { C.ready cells.now }
     ensures found { IfSome result (ShowsWanted wanted.after wanted.lo wanted.hi (C.all cells.now)) }
     ensures lesser { NoneLesser wanted.after wanted.lo wanted.hi (C.all cells.now) (length (C.all cells.now)) result }
@@ -129,6 +152,17 @@ fn least_at<C: PlainCells>(cells: &C, wanted: Wanted) -> Option<usize>
         found = lesser_at(cells, found, c, wanted);
     }
     found
+}
+
+/// Puts bytes in place of a value.
+fn put_value(value: &mut ArrayVec<u8, VALUE_BYTES>, bytes: &[u8])
+    requires { length bytes.now ≤ VALUE_BYTES }
+    ensures { value.new.items ≡ bytes.now }
+{
+    value.clear();
+    if value.try_extend_from_slice(bytes).is_err() {
+        unreachable!()
+    }
 }
 
 /// Puts the row of the least key that is asked for into `row`. False where the cells show none, and the row stays as it
@@ -141,10 +175,10 @@ pub(crate) fn next_plain<C: PlainCells>(cells: &C, wanted: Wanted, row: &mut Row
         → cell_rows (C.all cells.now) k ≡ None }
     ensures kept { result ≡ false → row.new ≡ row.old }
 {
-    let Some(c) = least_at(cells, wanted) else {
+    let Some(least) = least_at(cells, wanted) else {
         return false;
     };
-    row.key = cells.front(c).key;
-    row.value = cells.value(c);
+    row.key = least.key;
+    put_value(&mut row.value, cells.value(least.cell));
     true
 }

@@ -1,17 +1,20 @@
 //! Which changes of a home a snapshot sees: the entries that stand above it, and the one with the greatest number. A
 //! read asks whether it sees them all, and a rebuild which one it takes back next.
-ghost use Rattle.std.specs.Prelude.{[], ◌≡◌, ◌<◌, ◌≤◌, ℕ, true, false, not, length, IfOk};
+ghost use Rattle.std.specs.Prelude.{[], ◌≡◌, ◌≢◌, ◌<◌, ◌≤◌, ℕ, true, false, not, length, IfOk};
 ghost use Rattle.std.specs.Result.{is_err};
 ghost use Rattle.rb_base.specs.Blocks.{shape_blocks};
 ghost use Rattle.rb_base.specs.Logs.{Logs};
+ghost use Rattle.rb_base.specs.declared.ids.Xid.{Xid};
 ghost use Rattle.rb_base.specs.declared.shape.Shape.{Shape};
 ghost use Rattle.rb_cr.specs.Copies.{IsQuiet};
 ghost use Rattle.rb_cr.specs.Reads.{Reads};
 ghost use Rattle.rb_cr.specs.Scratches.{scratch_home};
 ghost use Rattle.rb_cr.specs.Visible.{StandsAbove, LookStandsAbove, IsTop, IsTopWithin};
+ghost use Rattle.rb_heap.specs.Cleaning.{cleaned_home};
 ghost use Rattle.rb_heap.specs.Homes.{home_of};
 ghost use Rattle.law_read.specs.Heights.{AtMost};
 ghost use Rattle.law_blocks.specs.Says.{walk_entry, walk_home};
+ghost use Rattle.rb_txntable.specs.declared.looks.Look.{Look};
 ghost use Rattle.rb_txntable.specs.declared.looks.Look.TheVariants.{Before};
 ghost use Rattle.law_home.specs.Walk.{Env, entry_at};
 
@@ -136,18 +139,22 @@ fn is_home_visible<S: Segments>(
     }
 }
 
-/// Whether an entry says by itself that it isn't above a snapshot, however its transaction stands.
+/// Whether an entry says by itself that it isn't above a snapshot, however its transaction stands. It isn't Open then.
 fn is_told_visible(entry: &Entry, scn: Scn) -> bool
-    ensures { result ≡ true → (shape : Shape) (env : Env) → AtMost env scn scn (walk_entry shape entry.now) }
+    ensures most { result ≡ true → (shape : Shape) (env : Env) → AtMost env scn scn (walk_entry shape entry.now) }
+    ensures closed { result ≡ true → entry.now.kind ≢ OPEN }
 {
     entry.kind != OPEN && entry.number <= scn
 }
 
-/// Whether each entry of a block of rows says so. Most blocks are found quiet by that, and no header is looked at.
-fn all_told_visible(block: &[u8], scn: Scn) -> bool
+/// Whether each entry of a block of rows says so. Most blocks are found quiet by that, and no header is looked at. Then
+/// there is nothing to clean either.
+pub(crate) fn all_told_visible(block: &[u8], scn: Scn) -> bool
     requires { length block.now ≡ UNIT }
-    ensures { result ≡ true → (shape : Shape) (env : Env) (b j : ℕ)
+    ensures most { result ≡ true → (shape : Shape) (env : Env) (b j : ℕ)
         → AtMost env scn scn (entry_at (walk_home shape b (home_of block.now)) j) }
+    ensures clean { result ≡ true → (look : Xid → Look)
+        → cleaned_home look (home_of block.now) ≡ home_of block.now }
 {
     for i in 0..ENTRIES {
         if !is_told_visible(&entry(block, i), scn) {

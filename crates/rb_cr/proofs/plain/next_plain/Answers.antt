@@ -1,14 +1,15 @@
 use Rattle.std.proofs.Common.{◌≡◌, ◌∙◌, ◌<◌, ◌≤◌, ℕ, List, Option, Some, None, get_or, length, refl, sym, ap, subst, arith}
 use Rattle.rb_cell.specs.declared.cell.Cell.{Cell}
 use Rattle.rb_cr.specs.Rows.{IsWanted, NoneLesser, cell_rows}
+use Rattle.rb_cr.specs.declared.plain.KeyCell.{KeyCell}
 use Rattle.rb_cr.proofs.Overlays.{CellWith, cell_with}
 use Rattle.rb_cr.proofs.Shown.{first_shows}
 use Rattle.rb_heap.specs.Homes.{empty_cell}
 use Rattle.rb_cr.proofs.plain.next_plain.Goals as goal
 
 -- a cell was found whose key is up to that of a row that is wanted
-found_up_to : (cells : List Cell) (after : Option ℕ) (lo hi n : ℕ) (found : Option ℕ) → NoneLesser after lo hi cells n found → ((i : ℕ) → i < length cells → i < n)
-    → (k : ℕ) (v : List ℕ) → IsWanted after lo hi k → cell_rows cells k ≡ Some v → (c : ℕ) × (found ≡ Some c) × ((get_or cells c empty_cell).key ≤ k)
+found_up_to : (cells : List Cell) (after : Option ℕ) (lo hi n : ℕ) (found : Option KeyCell) → NoneLesser after lo hi cells n found → ((i : ℕ) → i < length cells → i < n)
+    → (k : ℕ) (v : List ℕ) → IsWanted after lo hi k → cell_rows cells k ≡ Some v → (one : KeyCell) × (found ≡ Some one) × (one.key ≤ k)
 found_up_to cells after lo hi n found lesser all k v wanted is =
     let with : CellWith cells k = cell_with cells k v is in
     let one = lesser with.0 (all with.0 with.1) with.2 (subst (λ (z : ℕ). IsWanted after lo hi z) (sym with.3) wanted) in
@@ -30,16 +31,16 @@ returns-clause-given g c = λ _.
     let all = g.C.PlainCells.all c.args.cells.now in
     let w = c.args.wanted in
     let here = c.in-Some.ensures.found in
-    let key = c.front.ensures.key in
     record {
-      wanted = subst (λ (k : ℕ). IsWanted w.after w.lo w.hi k) (sym key) here.wanted;
-      shows = ap (cell_rows all) key ∙ (first_shows all c.in-Some.c here.there here.state here.first ∙ ap Some (sym c.value-row.ensures));
+      wanted = here.wanted;
+      shows = ap (cell_rows all) (sym here.key)
+          ∙ (first_shows all c.in-Some.least.cell here.there here.state (λ j less row same. here.first j less row (same ∙ here.key)) ∙ ap Some (sym (c.put_value.ensures ∙ c.value.ensures.bytes)));
       least = λ k v wanted is.
           let one = found_up_to all w.after w.lo w.hi (length all) c.least_at.result c.least_at.ensures.lesser (λ i lt. lt) k v wanted is in
           up_to one.0 k (sym one.1 ∙ c.in-Some.is) one.2;
     }
   where
-    up_to : (m k : ℕ) → Some m ≡ Some c.in-Some.c → (get_or (g.C.PlainCells.all c.args.cells.now) m empty_cell).key ≤ k → c.front.result.key ≤ k
+    up_to : (m : KeyCell) (k : ℕ) → Some m ≡ Some c.in-Some.least → m.key ≤ k → c.in-Some.least.key ≤ k
     up_to m k is le =
-        let same : m ≡ c.in-Some.c = cc in
-        omega (arith, c.front.ensures.key, subst (λ (n : ℕ). (get_or (g.C.PlainCells.all c.args.cells.now) n empty_cell).key ≤ k) same le)
+        let same : m ≡ c.in-Some.least = cc in
+        subst (λ (n : KeyCell). n.key ≤ k) same le

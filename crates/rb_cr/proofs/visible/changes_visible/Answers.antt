@@ -17,7 +17,7 @@ returns-then-all_told_visible-clause-told g c = λ tells yes j.
     let old = c.args.store.now in
     let env = env_of (s.shape_of old) (s.blocks old) in
     let same : c.block.result.now ≡ block_of (s.blocks old) c.args.block = search rules in
-    subst (λ (l : List ℕ). AtMost env c.args.scn c.args.scn (entry_at (walk_home (s.shape_of old) c.args.block (home_of l)) j)) same (c.all_told_visible.ensures c.if-all_told_visible.true (s.shape_of old) env c.args.block j)
+    subst (λ (l : List ℕ). AtMost env c.args.scn c.args.scn (entry_at (walk_home (s.shape_of old) c.args.block (home_of l)) j)) same (c.all_told_visible.ensures.most c.if-all_told_visible.true (s.shape_of old) env c.args.block j)
 
 pub returns-then-any_told_hidden-clause-busy : goal.returns-then-any_told_hidden-clause-busy
 returns-then-any_told_hidden-clause-busy g c = λ tells no quiet.
