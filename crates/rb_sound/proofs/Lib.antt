@@ -1,4 +1,5 @@
 pub mod Chains
+pub mod EmptyHomes
 pub mod Fresh
 pub mod Keys
 pub mod Short

@@ -1,2 +1,3 @@
 pub mod Active
+pub mod Empty
 pub mod Sound

@@ -8,6 +8,7 @@ ghost use Rattle.rb_heap.specs.Soundness.{IsTaken, IsEntrySound, IsLock, IsCellS
 ghost use Rattle.rb_heap.specs.Soundness.{IsFirstKeyed, AreKeysApart};
 ghost use Rattle.rb_segment.specs.Segments.{wrap_in};
 
+use crate::empty::home_is_empty;
 use rb_base::{SLOTS, Scn, Shape, UNIT, VALUE_BYTES};
 use rb_cell::{CELLS, Cell, EMPTY, ROW, STUB, cells, front, value_length};
 use rb_heap::find;
@@ -172,11 +173,15 @@ fn all_cells_sound(block: &[u8], shape: Shape, home: u32) -> bool
 }
 
 /// Whether a block of rows, 2,048 bytes, is in order, as the block of `home` in its table.
+#[tactic(auto, using(crate::proofs::EmptyHomes::empty_sound))]
 pub fn home_sound(block: &[u8], home: u32, limits: &Limits) -> bool
     requires block { length block.now ≡ UNIT }
     requires shape { IsShape limits.now.shape }
     ensures { IsTrue result ↔ IsHomeSound limits.now.shape limits.now.commit (wrap_in limits.now.wraps) home
         block.now }
 {
+    if home_is_empty(block) {
+        return true;
+    }
     entries_sound(block, limits) && all_cells_sound(block, limits.shape, home)
 }

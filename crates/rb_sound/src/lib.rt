@@ -4,6 +4,7 @@
 
 mod active;
 mod blocks;
+mod empty;
 mod home;
 mod laws;
 mod segment;

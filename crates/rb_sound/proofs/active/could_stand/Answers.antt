@@ -1,5 +1,4 @@
 use Rattle.std.proofs.Common.{◌%◌, sym, subst, arith}
-use Rattle.rb_base.specs.declared.sizes.TheConstants.{VALUE_BYTES}
 use Rattle.rb_cell.specs.declared.cell.Cell.{Cell}
 use Rattle.rb_heap.specs.Soundness.{IsCellSound, IsEntrySound}
 use Rattle.rb_itl.specs.declared.slots.Entry.{Entry}
