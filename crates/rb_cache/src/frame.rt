@@ -21,12 +21,12 @@ pub const BLOCKS: usize = 66_064;
 /// A block in memory.
 #[derive(Drop)]
 pub struct Frame {
+    /// Whether what stands at home may be older.
+    pub dirty: bool,
     /// Its number.
     pub block: BlockNo,
     /// What it is.
     pub bytes: [u8; UNIT],
-    /// Whether what stands at home may be older.
-    pub dirty: bool,
 }
 
 /// Writes bytes over those from a place on.

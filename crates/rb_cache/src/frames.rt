@@ -18,6 +18,7 @@ use crate::order::{all_numbers, empty_frames};
 use lru::LruCache;
 use rb_base::{BlockNo, Failed, Group, Lsn, NoMemory, UNIT};
 use rb_disk::Disk;
+use rb_fill::zero_numbers;
 use rb_layout::Layout;
 use rb_twin::{TWIN_IMAGES, Twin};
 use std::alloc::Global;
@@ -76,9 +77,7 @@ impl Frames {
     {
         let slots = empty_frames(alloc, count)?;
         let order = all_numbers(alloc, count)?;
-        let Ok(places) = vec![in alloc; 0; BLOCKS] else {
-            return Err(NoMemory);
-        };
+        let places = zero_numbers(alloc, BLOCKS)?;
         Ok(Frames {
             slots,
             order,

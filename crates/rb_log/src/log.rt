@@ -20,6 +20,7 @@ use crate::unit::{group_of, read_ahead};
 use crate::waiting::{put_body, reach};
 use rb_base::{Failed, Group, Lsn, OpenFault, UNIT};
 use rb_disk::{Disk, write_synced};
+use rb_fill::zero_bytes;
 use rb_layout::{Head, Layout};
 use std::alloc::Global;
 use std::marker::Model;
@@ -85,7 +86,7 @@ impl Log {
         let Ok(units) = Vec::with_capacity(alloc, layout.log as usize) else {
             return Err(OpenFault::NoMemory);
         };
-        let Ok(buffer) = vec![in alloc; 0; FLUSH_BYTES] else {
+        let Ok(buffer) = zero_bytes(alloc, FLUSH_BYTES) else {
             return Err(OpenFault::NoMemory);
         };
         Ok(Log {

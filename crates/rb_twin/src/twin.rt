@@ -14,6 +14,7 @@ use crate::batch::{AREA, TWIN_IMAGES, clear_batch, image_count, put_image};
 use crate::steps::{repair_file, write_batch};
 use rb_base::{BlockNo, Failed, NoMemory, OpenFault, UNIT};
 use rb_disk::Disk;
+use rb_fill::zero_bytes;
 use rb_layout::Layout;
 use std::alloc::Global;
 use std::marker::Model;
@@ -42,12 +43,9 @@ impl Twin {
     pub fn new(alloc: Global, layout: &Layout) -> Result<Twin, NoMemory>
         ensures { IfOk result (λ twin. twin ≡ record { layout = layout.now; batch = [] }) }
     {
-        let Ok(area) = vec![in alloc; 0; AREA] else {
-            return Err(NoMemory);
-        };
         Ok(Twin {
             layout: *layout,
-            area,
+            area: zero_bytes(alloc, AREA)?,
         })
     }
 

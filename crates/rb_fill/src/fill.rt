@@ -1,0 +1,41 @@
+//! Buffers of zeros, which are filled piece by piece: that costs less than number by number, and less than one long
+//! fill.
+ghost use Rattle.std.specs.Prelude.{◌≡◌, ◌<◌, IfOk, length, replicate};
+
+use rb_base::NoMemory;
+use std::alloc::Global;
+
+/// How many zeros are put at once.
+const PIECE: usize = 1024;
+
+/// So many copies of a value, of which the piece has some.
+fn repeated<T: Copy>(alloc: Global, value: T, piece: &[T], count: usize) -> Result<Vec<T>, NoMemory>
+    requires some { 0 < length piece.now }
+    requires copies { piece.now ≡ replicate (length piece.now) value }
+    ensures { IfOk result (λ items. items.items ≡ replicate count value) }
+{
+    let Ok(mut items) = Vec::with_capacity(alloc, count) else {
+        return Err(NoMemory);
+    };
+    while items.len() < count {
+        let more = (count - items.len()).min(piece.len());
+        if items.extend_from_slice(&piece[..more]).is_err() {
+            return Err(NoMemory);
+        }
+    }
+    Ok(items)
+}
+
+/// So many bytes, each 0.
+pub fn zero_bytes(alloc: Global, count: usize) -> Result<Vec<u8>, NoMemory>
+    ensures { IfOk result (λ bytes. bytes.items ≡ replicate count 0) }
+{
+    repeated(alloc, 0, &[0; 2 * PIECE], count)
+}
+
+/// So many numbers, each 0.
+pub fn zero_numbers(alloc: Global, count: usize) -> Result<Vec<u16>, NoMemory>
+    ensures { IfOk result (λ numbers. numbers.items ≡ replicate count 0) }
+{
+    repeated(alloc, 0, &[0; PIECE], count)
+}
