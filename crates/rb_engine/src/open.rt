@@ -33,10 +33,10 @@ fn new_copies(alloc: Global) -> Copies
     }
 }
 
-/// A memory of sessions that have done nothing yet, over the commits that the blocks have.
-fn new_memory<T: Store>(store: &mut T, copies: Copies) -> Result<Memory, Failed>
+/// A memory of those sessions, over the commits that the blocks have.
+fn new_memory<T: Store>(store: &mut T, sessions: Sessions, copies: Copies) -> Result<Memory, Failed>
     requires going { T.failed store.old ≡ false }
-    ensures sessions { IfOk result (λ memory. memory.sessions ≡ replicate SESSIONS fresh) }
+    ensures sessions { IfOk result (λ memory. memory.sessions ≡ sessions) }
     ensures waits { IfOk result (λ memory. memory.waits ≡ []) }
     ensures scn { T.tells → IfOk result (λ memory. memory.scn
         ≡ commit_scn (T.shape_of store.old) (T.blocks store.old)) }
@@ -46,7 +46,7 @@ fn new_memory<T: Store>(store: &mut T, copies: Copies) -> Result<Memory, Failed>
 {
     let scn = commit_scn_of(store)?;
     Ok(Memory {
-        sessions: Sessions::new(),
+        sessions,
         waits: Waits::new(),
         scn,
         stopped: false,
@@ -58,8 +58,10 @@ fn new_memory<T: Store>(store: &mut T, copies: Copies) -> Result<Memory, Failed>
 fn open_memory<T: Store>(
     store: &mut T,
     workspace: &mut Workspace,
+    sessions: Sessions,
     copies: Copies,
 ) -> Result<Memory, OpenFault>
+    requires fresh { sessions ≡ replicate SESSIONS fresh }
     requires empty { copies.kept ≡ [] }
     requires going { T.failed store.old ≡ false }
     requires few { T.lsn store.old ≤ 2 ^ 61 + 4096 }
@@ -80,29 +82,39 @@ fn open_memory<T: Store>(
     ensures same { SameStore T.Store store.old store.new }
     ensures counted { IsCountedAs (T.faults store.old) (T.faults store.new) (err_is is_failed result) }
 {
-    let memory = new_memory(store, copies)?;
+    let memory = new_memory(store, sessions, copies)?;
     open_blocks(store, workspace)?;
     Ok(memory)
 }
 
-/// Room for homes that are rebuilt, and for what steps make.
+/// The memory of an engine that isn't a store's: sessions that have done nothing yet, room for homes that are rebuilt,
+/// and room for what steps make.
 #[derive(Drop)]
 struct Room {
+    sessions: Sessions,
     scratch: Scratch,
     workspace: Box<Workspace>,
 }
 
-/// Takes that room; `NoMemory` where there is none.
-fn take_room(alloc: Global) -> Result<Room, NoMemory> {
+/// Takes that memory; `NoMemory` where there is none.
+fn take_room(alloc: Global) -> Result<Room, NoMemory>
+    ensures { IfOk result (λ room. room.sessions ≡ replicate SESSIONS fresh) }
+{
+    let sessions = Sessions::new(alloc)?;
     let scratch = Scratch::new(alloc)?;
     let Ok(workspace) = Box::new(alloc, Workspace::new()) else {
         return Err(NoMemory);
     };
-    Ok(Room { scratch, workspace })
+    Ok(Room {
+        sessions,
+        scratch,
+        workspace,
+    })
 }
 
-/// The engine over a store that can be opened, with that room, and that table of kept homes.
+/// The engine over a store that can be opened, with that memory, and that table of kept homes.
 fn open_with<T: Store>(room: Room, copies: Copies, store: T) -> Result<Engine<T>, (OpenFault, T)>
+    requires fresh { room.sessions ≡ replicate SESSIONS fresh }
     requires empty { copies.kept ≡ [] }
     requires going { T.failed store ≡ false }
     requires few { T.lsn store ≤ 2 ^ 61 + 4096 }
@@ -124,11 +136,12 @@ fn open_with<T: Store>(room: Room, copies: Copies, store: T) -> Result<Engine<T>
     ensures counted_err { IfErr result (λ r. IsCountedAs (T.faults store) (T.faults r.1) (is_failed r.0)) }
 {
     let Room {
+        sessions,
         scratch,
         mut workspace,
     } = room;
     let mut store = store;
-    match open_memory(&mut store, &mut workspace, copies) {
+    match open_memory(&mut store, &mut workspace, sessions, copies) {
         Ok(memory) => Ok(Engine {
             memory,
             scratch,

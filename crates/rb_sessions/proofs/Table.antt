@@ -1,27 +1,20 @@
 -- A write of one session in the table, as the table's view sees it.
-use Rattle.std.proofs.Common.{◌≡◌, ◌≢◌, ◌∙◌, ℕ, zero, suc, ◌<◌, List, [], ◌∷◌, length, map, get_or, set, replicate, Some, refl, sym, ap, arith}
+use Rattle.std.proofs.Common.{◌≡◌, ◌≢◌, ◌∙◌, ℕ, zero, suc, ◌<◌, List, [], ◌∷◌, length, map, get_or, set, Some, sym, ap, arith}
 use Rattle.std.proofs.lemmas.List.{map-set, get_or-map}
 use Rattle.rb_base.specs.declared.ids.Xid.{Xid}
 use Rattle.rb_sessions.specs.declared.row.SessionRow.{SessionRow}
 use Rattle.rb_sessions.specs.Kept.{KeptSession, session_view, fresh}
+use Rattle.rb_sessions.specs.declared.sessions.TheConstants.{SESSIONS}
 
 -- where one session became what a call makes of it, so did the table
 pub changed_at : (entries : List SessionRow) (i : ℕ) (new d : SessionRow) (call : KeptSession → KeptSession) (table : List KeptSession)
-    → i < length entries → map session_view entries ≡ table → session_view new ≡ call (session_view (get_or entries i d))
+    → length entries ≡ SESSIONS → i < SESSIONS → map session_view entries ≡ table → d ≡ get_or entries i d → session_view new ≡ call (session_view d)
     → map session_view (set entries i new) ≡ set table i (call (get_or table i fresh))
-changed_at entries i new d call table within is new_is =
+changed_at entries i new d call table long below is at new_is =
+    let within : i < length entries = omega (arith, long, below) in
     map-set session_view entries i new
-    ∙ ap (set (map session_view entries) i) (new_is ∙ ap call (sym (get_or-map session_view entries i d fresh within)))
+    ∙ ap (set (map session_view entries) i) (new_is ∙ ap (λ (e : SessionRow). call (session_view e)) at ∙ ap call (sym (get_or-map session_view entries i d fresh within)))
     ∙ ap (λ t. set t i (call (get_or t i fresh))) is
-
--- a table of fresh sessions
-pub all_fresh : (entries : List SessionRow) (n : ℕ) → length entries ≡ n → ((i : ℕ) (d : SessionRow) → i < n → session_view (get_or entries i d) ≡ fresh) → map session_view entries ≡ replicate n fresh
-all_fresh [] zero long each = refl
-all_fresh [] (suc n) long each = absurd (omega (arith, long))
-all_fresh (e ∷ entries) zero long each = absurd (omega (arith, long))
-all_fresh (e ∷ entries) (suc n) long each =
-    ap (λ k. k ∷ map session_view entries) (each 0 e (omega arith))
-    ∙ ap (λ ks. fresh ∷ ks) (all_fresh entries n (omega (arith, long)) (λ i d lt. each (suc i) d (omega arith)))
 
 -- where none of the first n entries is of that transaction, none of the first n sessions is
 pub unowned : (entries : List SessionRow) (n i : ℕ) (x : Xid) → ((d : SessionRow) (k : ℕ) → k < n → (get_or entries k d).own ≢ Some x) → i < n → (get_or (map session_view entries) i fresh).own ≢ Some x

@@ -1,7 +1,7 @@
 //! The table itself. The engine owns one, asks it who works in which transaction, and notes each call in it.
 ghost use Rattle.std.specs.Option.{option_map};
 ghost use Rattle.std.specs.Prelude.{◌≡◌, ◌≢◌, ◌≤◌, ◌<◌, ℕ, length, replicate};
-ghost use Rattle.std.specs.Prelude.{Some, IfSome, IfNone};
+ghost use Rattle.std.specs.Prelude.{Some, IfOk, IfSome, IfNone};
 ghost use Rattle.rb_model.specs.Calls.{without_savepoint};
 ghost use Rattle.rb_model.specs.Names.{name_text};
 ghost use Rattle.rb_model.specs.State.{savepoint_named};
@@ -12,9 +12,9 @@ use crate::cursor::{CURSORS, Cursor};
 use crate::pending::Pending;
 use crate::row::{Session, SessionRow};
 use crate::savepoint::SAVEPOINTS;
-use rb_base::Xid;
+use rb_base::{NoMemory, Xid};
 use rb_model::{Isolation, Name};
-use std::array;
+use std::alloc::Global;
 use std::marker::Model;
 
 /// How many sessions there are.
@@ -23,26 +23,34 @@ pub const SESSIONS: usize = 16;
 /// Sixteen sessions, numbered from 1.
 #[derive(Drop)]
 pub struct Sessions {
-    entries: [SessionRow; SESSIONS],
+    // They are on the heap, so that the table, some 37 kB, is made where it stays.
+    entries: Vec<SessionRow>,
 }
 
 impl Model for Sessions {
-    ghost use Rattle.std.specs.Prelude.{List, map};
+    ghost use Rattle.std.specs.Prelude.{◌≡◌, List, length, map};
     ghost use Rattle.rb_sessions.specs.Kept.{KeptSession, session_view};
+    ghost use Rattle.rb_sessions.specs.declared.sessions.TheConstants.{SESSIONS};
 
     ghost Value = { List KeptSession };
 
-    ghost view = { λ a. map session_view a.entries };
+    ghost view = { λ a. map session_view a.entries.items };
+
+    ghost invariant = { λ a. length a.entries.items ≡ SESSIONS };
 }
 
 impl Sessions {
     /// All sessions without a transaction and without a cursor. None has ever waited.
-    pub fn new() -> Sessions
-        ensures { result ≡ replicate SESSIONS fresh }
+    pub fn new(alloc: Global) -> Result<Sessions, NoMemory>
+        ensures { IfOk result (λ sessions. sessions ≡ replicate SESSIONS fresh) }
     {
-        Sessions {
-            entries: array::from_fn(|_| SessionRow::new()),
+        let Ok(mut entries) = Vec::with_capacity(alloc, SESSIONS) else {
+            return Err(NoMemory);
+        };
+        for _ in 0..SESSIONS {
+            entries.push_reserved(SessionRow::new());
         }
+        Ok(Sessions { entries })
     }
 
     /// What the table has of session `s`.

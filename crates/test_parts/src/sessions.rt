@@ -5,6 +5,7 @@ ghost use Rattle.std.specs.Prelude.{◌≤◌};
 use rb_base::Xid;
 use rb_model::{Isolation, Name, Op};
 use rb_sessions::{Cursor, Pending, Session, Sessions};
+use std::alloc::Global;
 use std::test::Fail;
 
 /// The transaction of session 1.
@@ -60,10 +61,15 @@ fn open(table: &mut Sessions, s: u16, name: &Name, cursor: Cursor) -> Result<(),
     Ok(())
 }
 
+/// A table of sessions that have done nothing.
+fn new_table(alloc: Global) -> Result<Sessions, Fail> {
+    Sessions::new(alloc).map_err(|_| Fail::new("no memory"))
+}
+
 /// A table in which session 1 has a cursor opened before its only change and one after it, and session 16 one that sees
 /// both changes of its transaction.
-fn written(early: &Name, late: &Name) -> Result<Sessions, Fail> {
-    let mut table = Sessions::new();
+fn written(alloc: Global, early: &Name, late: &Name) -> Result<Sessions, Fail> {
+    let mut table = new_table(alloc)?;
     open(&mut table, 1, early, seeing(None, 0))?;
     table.wrote(1, FIRST);
     open(&mut table, 1, late, seeing(Some(FIRST), 1))?;
@@ -87,7 +93,7 @@ fn session(own: Option<Xid>, length: u32, cursors: u8) -> Session {
 #[test]
 fn one_rolls_back(rt: HostRuntime) -> Result<(), Fail> {
     let (early, late) = (name(b"early")?, name(b"late")?);
-    let mut table = written(&early, &late)?;
+    let mut table = written(rt.alloc(), &early, &late)?;
     assert!(rt; table.session(1) == session(Some(FIRST), 1, 2));
     assert!(rt; (table.owner(FIRST), table.owner(LAST)) == (Some(1), Some(16)));
     table.rollback(1);
@@ -103,7 +109,7 @@ fn one_rolls_back(rt: HostRuntime) -> Result<(), Fail> {
 #[test]
 fn one_commits(rt: HostRuntime) -> Result<(), Fail> {
     let (early, late) = (name(b"early")?, name(b"late")?);
-    let mut table = written(&early, &late)?;
+    let mut table = written(rt.alloc(), &early, &late)?;
     table.took(1, &late, 7);
     table.commit(1);
     let given = Cursor {
@@ -138,7 +144,7 @@ fn set(table: &mut Sessions, s: u16, name: &Name) -> Result<(), Fail>
 #[test]
 fn one_rolls_back_to_a_savepoint(rt: HostRuntime) -> Result<(), Fail> {
     let (early, late) = (name(b"early")?, name(b"late")?);
-    let mut table = Sessions::new();
+    let mut table = new_table(rt.alloc())?;
     set(&mut table, 1, &early)?;
     table.wrote(1, FIRST);
     set(&mut table, 1, &late)?;
@@ -178,7 +184,7 @@ fn one_rolls_back_to_a_savepoint(rt: HostRuntime) -> Result<(), Fail> {
 #[test]
 fn nothing_is_left_but_the_transaction(rt: HostRuntime) -> Result<(), Fail> {
     let first = name(b"first")?;
-    let mut table = Sessions::new();
+    let mut table = new_table(rt.alloc())?;
     set(&mut table, 1, &first)?;
     table.wrote(1, FIRST);
     table.rollback_to(1, &first);
@@ -198,7 +204,7 @@ fn nothing_is_left_but_the_transaction(rt: HostRuntime) -> Result<(), Fail> {
 // transaction leaves it.
 #[test]
 fn writes_are_kept(rt: HostRuntime) -> Result<(), Fail> {
-    let mut table = Sessions::new();
+    let mut table = new_table(rt.alloc())?;
     table.hold(1, Pending::new(2, 7, Some(Op::Insert(b"ab"))));
     table.hold(16, Pending::new(1, 9, Some(Op::Update(b""))));
     table.hold(15, Pending::new(1, 8, Some(Op::Delete)));

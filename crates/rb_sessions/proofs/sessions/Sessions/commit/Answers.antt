@@ -4,4 +4,4 @@ use Rattle.rb_sessions.proofs.Table.{changed_at}
 use Rattle.rb_sessions.proofs.sessions.Sessions.commit.Goals as goal
 
 pub returns : goal.returns
-returns c = changed_at c.self.inside.entries (c.args.s - 1) c.commit.new.self c.index-self-s.result kept.committed c.args.self.now (search rules) c.self.view_is c.commit.ensures
+returns c = changed_at c.self.inside.entries.items (c.args.s - 1) c.commit.new.self c.index_mut.result.now kept.committed c.args.self.now c.self.invariant (search rules) c.self.view_is c.index_mut.ensures.value c.commit.ensures

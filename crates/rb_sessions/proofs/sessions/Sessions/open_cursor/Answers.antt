@@ -5,4 +5,4 @@ use Rattle.rb_sessions.proofs.Table.{changed_at}
 use Rattle.rb_sessions.proofs.sessions.Sessions.open_cursor.Goals as goal
 
 pub returns : goal.returns
-returns c = changed_at c.self.inside.entries (c.args.s - 1) c.open_cursor.new.self c.index-self-s.result (kept.with_cursor (name_text c.args.name.now) c.args.cursor) c.args.self.now (search rules) c.self.view_is c.open_cursor.ensures
+returns c = changed_at c.self.inside.entries.items (c.args.s - 1) c.open_cursor.new.self c.index_mut.result.now (kept.with_cursor (name_text c.args.name.now) c.args.cursor) c.args.self.now c.self.invariant (search rules) c.self.view_is c.index_mut.ensures.value c.open_cursor.ensures

@@ -5,4 +5,4 @@ use Rattle.rb_sessions.proofs.Table.{changed_at}
 use Rattle.rb_sessions.proofs.sessions.Sessions.set_savepoint.Goals as goal
 
 pub returns : goal.returns
-returns c = changed_at c.self.inside.entries (c.args.s - 1) c.set_savepoint.new.self c.index-self-s.result (kept.with_savepoint (name_text c.args.name.now)) c.args.self.now (search rules) c.self.view_is c.set_savepoint.ensures
+returns c = changed_at c.self.inside.entries.items (c.args.s - 1) c.set_savepoint.new.self c.index_mut.result.now (kept.with_savepoint (name_text c.args.name.now)) c.args.self.now c.self.invariant (search rules) c.self.view_is c.index_mut.ensures.value c.set_savepoint.ensures

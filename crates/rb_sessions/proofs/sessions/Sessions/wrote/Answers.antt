@@ -4,4 +4,4 @@ use Rattle.rb_sessions.proofs.Table.{changed_at}
 use Rattle.rb_sessions.proofs.sessions.Sessions.wrote.Goals as goal
 
 pub returns : goal.returns
-returns c = changed_at c.self.inside.entries (c.args.s - 1) c.write.new.self c.index-self-s.result (kept.wrote c.args.own) c.args.self.now (search rules) c.self.view_is c.write.ensures
+returns c = changed_at c.self.inside.entries.items (c.args.s - 1) c.write.new.self c.index_mut.result.now (kept.wrote c.args.own) c.args.self.now c.self.invariant (search rules) c.self.view_is c.index_mut.ensures.value c.write.ensures
