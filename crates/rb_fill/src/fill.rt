@@ -1,6 +1,6 @@
 //! Buffers of zeros, which are filled piece by piece: that costs less than number by number, and less than one long
 //! fill.
-ghost use Rattle.std.specs.Prelude.{◌≡◌, ◌<◌, IfOk, length, replicate};
+ghost use Rattle.std.specs.Prelude.{◌≡◌, ◌<◌, IfOk, length, replicate, vec_len};
 
 use rb_base::NoMemory;
 use std::alloc::Global;
@@ -12,7 +12,8 @@ const PIECE: usize = 1024;
 fn repeated<T: Copy>(alloc: Global, value: T, piece: &[T], count: usize) -> Result<Vec<T>, NoMemory>
     requires some { 0 < length piece.now }
     requires copies { piece.now ≡ replicate (length piece.now) value }
-    ensures { IfOk result (λ items. items.items ≡ replicate count value) }
+    ensures copies { IfOk result (λ items. items.items ≡ replicate count value) }
+    ensures len { IfOk result (λ items. vec_len items ≡ count) }
 {
     let Ok(mut items) = Vec::with_capacity(alloc, count) else {
         return Err(NoMemory);
@@ -28,14 +29,16 @@ fn repeated<T: Copy>(alloc: Global, value: T, piece: &[T], count: usize) -> Resu
 
 /// So many bytes, each 0.
 pub fn zero_bytes(alloc: Global, count: usize) -> Result<Vec<u8>, NoMemory>
-    ensures { IfOk result (λ bytes. bytes.items ≡ replicate count 0) }
+    ensures zeros { IfOk result (λ bytes. bytes.items ≡ replicate count 0) }
+    ensures len { IfOk result (λ bytes. vec_len bytes ≡ count) }
 {
     repeated(alloc, 0, &[0; 2 * PIECE], count)
 }
 
 /// So many numbers, each 0.
 pub fn zero_numbers(alloc: Global, count: usize) -> Result<Vec<u16>, NoMemory>
-    ensures { IfOk result (λ numbers. numbers.items ≡ replicate count 0) }
+    ensures zeros { IfOk result (λ numbers. numbers.items ≡ replicate count 0) }
+    ensures len { IfOk result (λ numbers. vec_len numbers ≡ count) }
 {
     repeated(alloc, 0, &[0; PIECE], count)
 }

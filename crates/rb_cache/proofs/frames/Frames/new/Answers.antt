@@ -18,7 +18,7 @@ invariant_of-result c =
     let slots = c.in_ok-slots.slots.items in
     let long = c.in_ok-slots.ensures.count in
     let places = c.in_ok-places.places.items in
-    let zeros = c.in_ok-places.ensures in
+    let zeros = c.in_ok-places.ensures.zeros in
     let some : 1 ≤ length slots = omega (arith, long, c.requires.some) in
     subst (λ (ks : List ℕ). AreFrames slots ks places) (sym c.in_ok-order.ensures.numbers)
     (new_frames slots c.args.count long c.in_ok-slots.ensures.empty places c.requires.some c.requires.few (so_many 66064 places zeros) (lead_there (length slots) 66064 places zeros some))
