@@ -187,6 +187,8 @@ fn next_rebuilt<S: Store, L: Ledger>(
 /// Else the home is rebuilt in the scratch, as `build_with` does it, and kept. What the scratch has afterwards is open.
 /// `TooOld` only where what the rebuild needs was given up by a segment, above the snapshot; `Failed` only where a call
 /// failed. The store is given no group.
+// A scan comes here only where a block doesn't tell its rows by itself, and isn't to pay for it elsewhere.
+#[inline(never)]
 pub fn next_at<S: Store>(
     store: &mut S,
     block: BlockNo,

@@ -113,32 +113,31 @@ impl<'a> PlainCells for HomeCells<'a> {
     }
 }
 
-/// The one of two cells that has the lesser key, of the first where they are equal: the one that was found, where one
-/// was, and `c`, where that holds a row that is asked for.
-fn lesser_at<C: PlainCells>(
-    cells: &C,
-    found: Option<KeyCell>,
-    c: usize,
-    wanted: Wanted,
-) -> Option<KeyCell>
-    requires ready { C.ready cells.now }
-    requires within { c < length (C.all cells.now) }
-    requires found { IfSome found (ShowsWanted wanted.after wanted.lo wanted.hi (C.all cells.now)) }
-    requires lesser { NoneLesser wanted.after wanted.lo wanted.hi (C.all cells.now) c found }
-    ensures found { IfSome result (ShowsWanted wanted.after wanted.lo wanted.hi (C.all cells.now)) }
-    ensures lesser { NoneLesser wanted.after wanted.lo wanted.hi (C.all cells.now) (c + 1) result }
+/// The cell with the row of the least key from `from` on and up to `hi`, the first where more than one has it. Each row
+/// that is found leaves fewer keys that are looked for.
+fn least_from<C: PlainCells>(cells: &C, from: u64, hi: u64) -> Option<KeyCell>
+    requires { C.ready cells.now }
+    ensures found { IfSome result (ShowsWanted None from hi (C.all cells.now)) }
+    ensures lesser { NoneLesser None from hi (C.all cells.now) (length (C.all cells.now)) result }
 {
-    let head = cells.front(c);
-    if head.state != ROW || !wanted.has(head.key) {
-        return found;
-    }
-    match found {
-        Some(least) if least.key <= head.key => found,
-        _ => Some(KeyCell {
+    let mut found = None;
+    let mut up_to = hi;
+    for c in 0..cells.count() {
+        let head = cells.front(c);
+        if head.state != ROW || head.key < from || head.key > up_to {
+            continue;
+        }
+        let one = KeyCell {
             cell: c,
             key: head.key,
-        }),
+        };
+        if one.key == from {
+            return Some(one);
+        }
+        found = Some(one);
+        up_to = one.key - 1;
     }
+    found
 }
 
 /// The cell with the row of the least key that is asked for.
@@ -147,11 +146,8 @@ fn least_at<C: PlainCells>(cells: &C, wanted: Wanted) -> Option<KeyCell>
     ensures found { IfSome result (ShowsWanted wanted.after wanted.lo wanted.hi (C.all cells.now)) }
     ensures lesser { NoneLesser wanted.after wanted.lo wanted.hi (C.all cells.now) (length (C.all cells.now)) result }
 {
-    let mut found = None;
-    for c in 0..cells.count() {
-        found = lesser_at(cells, found, c, wanted);
-    }
-    found
+    let from = wanted.from()?;
+    least_from(cells, from, wanted.hi)
 }
 
 /// Puts bytes in place of a value.

@@ -1,7 +1,7 @@
 //! The rows of a home that was rebuilt, or is kept, in the order of their keys. Whoever reads a block as it was at a
 //! snapshot asks for them one by one.
 ghost use Rattle.std.specs.Prelude.{◌≡◌, ◌<◌, ◌≤◌, ◌↔◌, ℕ, IsTrue, true, false, length, map};
-ghost use Rattle.std.specs.Prelude.{slice_index_or, None, IfSome};
+ghost use Rattle.std.specs.Prelude.{slice_index_or, None, IfNone, IfSome};
 ghost use Rattle.rb_cr.specs.Records.{row_items};
 ghost use Rattle.rb_cr.specs.Rows.{IsNext, IsWanted, IsFound, Reaches, kept_key};
 ghost use Rattle.rb_heap.specs.Homes.{empty_cell};
@@ -36,6 +36,20 @@ impl Wanted {
             Some(after) if key <= after => false,
             _ => self.lo <= key && key <= self.hi,
         }
+    }
+
+    /// The key from which on up to the greatest one all are asked for. None where none is.
+    pub(crate) fn from(self) -> Option<u64>
+        ensures within { IfSome result (λ from. (key : ℕ) → IsWanted self.after self.lo self.hi key → from ≤ key) }
+        ensures all { IfSome result (λ from. (key : ℕ) → from ≤ key → key ≤ self.hi
+            → IsWanted self.after self.lo self.hi key) }
+        ensures none { IfNone result ((key : ℕ) → IsWanted self.after self.lo self.hi key → ⊥) }
+    {
+        let Some(after) = self.after else {
+            return Some(self.lo);
+        };
+        let behind = after.checked_add(1)?;
+        Some(self.lo.max(behind))
     }
 }
 
