@@ -314,6 +314,28 @@ module _ {S : Type 0} (s : Ghosts S) where
     cleans_loaded old mid new true serves shape slots clean logs = cleaned_loaded old mid new serves shape slots clean logs
     cleans_loaded old mid new false serves shape slots clean logs = cleaned_fails old mid new serves slots clean (λ fault keeps. fault_survives s told laws h xids mid new (shape ∙ serves.shape) clean.holds logs keeps)
 
+    -- Calls that only loaded, before a cleaning.
+    pub serves_loaded : (old new : S) → Serves s h xids m old → Logs s old new [] true → Serves s h xids m new
+    serves_loaded old new serves logs = serves_on old new logs.same_shape serves (none_cleaned (λ b. ⊥) (λ b. ⊥) 0 old new serves logs (λ b is young. absurd is))
+
+    pub loaded_cleans : (May Must : ℕ → Type 0) (most : ℕ) (old mid new : S) (going : Bool) → Serves s h xids m old → Logs s old mid [] true → Cleans s h xids May Must most mid new going → Cleans s h xids May Must most old new going
+    loaded_cleans May Must most old mid new true serves logs clean =
+        let same : s.blocks mid ≡ s.blocks old = logs.blocks told refl in record {
+          holds = clean.holds;
+          only = subst (λ (l : List (List ℕ)). OnlyCleaned h.shape May l (s.blocks new)) same clean.only;
+          all = λ b is young. subst (λ (l : List (List ℕ)). IsClean h.shape l (s.blocks new) b) same (clean.all b is young);
+          count = clean.count;
+          few = clean.few;
+          lsn = let n = logs.number refl in let k = clean.lsn in omega (arith, n, k);
+          survives = λ before keeps. survives_on s (s.slots old) h h h old mid new serves.going
+              (survives_same s told laws {fault = before} h h xids old mid true serves.shape refl refl refl refl serves.holds logs keeps)
+              (subst (λ (k : Option ℕ). Survives s k before h h mid new) logs.same_slots (clean.survives before keeps));
+        }
+    loaded_cleans May Must most old mid new false serves logs clean = λ fault keeps.
+        survives_on s (s.slots old) h h (record h { stopped = true }) old mid new serves.going
+        (survives_same s told laws {fault = fault} h h xids old mid true serves.shape refl refl refl refl serves.holds logs keeps)
+        (subst (λ (k : Option ℕ). Survives s k fault h (record h { stopped = true }) mid new) logs.same_slots (clean fault keeps))
+
     -- The same of other blocks, of which more may be cleaned, and fewer must be.
     pub cleaned_as : (May More Must Less : ℕ → Type 0) (few most : ℕ) (old new : S) → ((b : ℕ) → May b → More b) → ((b : ℕ) → Less b → Must b) → few ≤ most → HasCleaned s h xids May Must few old new → HasCleaned s h xids More Less most old new
     cleaned_as May More Must Less few most old new more less le clean = record {

@@ -55,12 +55,13 @@ pub fn do_fetch<T: Store>(
     ensures disk { IsCountedAs (T.faults store.old) (T.faults store.new) (err_is is_disk_fault result) }
 {
     check_session(memory, s)?;
-    let Some(cursor) = memory.sessions.cursor(s, name) else {
+    let Some(place) = memory.sessions.cursor_place(s, name) else {
         return Err(Refusal::NoCursor);
     };
+    let cursor = memory.sessions.cursor_at(s, place);
     match next_row(store, workspace, scratch, &mut memory.copies, &cursor, row) {
         Ok(Fetched::Row) => {
-            memory.sessions.took(s, name, row.key);
+            memory.sessions.took_at(s, place, row.key);
             Ok(Fetched::Row)
         }
         Ok(Fetched::End) => Ok(Fetched::End),

@@ -15,9 +15,9 @@ ghost use Rattle.rb_model.specs.State.{State};
 ghost use Rattle.law_copies.specs.Copies.{CopiesStand};
 ghost use Rattle.law_sessions.specs.Scan.{IsAskedKey};
 
-use rb_base::{Store, Workspace};
+use rb_base::{Failed, Store, Workspace};
 use rb_copies::Copies;
-use rb_cr::{CrFault, Scratch, Snapshot, Wanted, next_at};
+use rb_cr::{CrFault, Scratch, Snapshot, Wanted, next_at, next_told};
 use rb_model::{Fetched, Row};
 use rb_sessions::Cursor;
 use rb_steps::clean_step;
@@ -32,6 +32,10 @@ fn is_in_one_round(cursor: &Cursor, blocks: u32) -> bool
         → k % blocks ≤ cursor.now.hi % blocks }
 {
     let blocks = u64::from(blocks);
+    // A range of so many keys goes round: no quotient is needed for that.
+    if cursor.hi.saturating_sub(cursor.lo) >= blocks {
+        return false;
+    }
     cursor.lo / blocks == cursor.hi / blocks
 }
 
@@ -95,9 +99,10 @@ fn is_asked(cursor: &Cursor, blocks: u32, g: u32) -> bool
     ahead <= cursor.hi - cursor.lo
 }
 
-/// Puts the next row of home `g` into `row`, where it has one. The home is cleaned first, unless the log is worn out,
-/// so that what is known of its transactions now is still known when their undo is gone; then it is rebuilt with the
-/// help of the homes that are kept.
+/// Puts the next row of home `g` into `row`, where it has one. Where the block tells by itself that the snapshot sees
+/// each of its changes it is read as it stands: it has nothing to clean then. Else the home is cleaned first, unless the
+/// log is worn out, so that what is known of its transactions now is still known when their undo is gone; then it is
+/// rebuilt with the help of the homes that are kept.
 fn next_in<S: Store>(
     store: &mut S,
     workspace: &mut Workspace,
@@ -139,9 +144,6 @@ fn next_in<S: Store>(
         return Ok(false);
     }
     let block = (u32::from(cursor.table) - 1) * blocks + g;
-    if clean_step(store, block, workspace).is_err() {
-        return Err(CrFault::Failed);
-    }
     let snapshot = Snapshot {
         scn: cursor.scn,
         own: cursor.own,
@@ -152,6 +154,14 @@ fn next_in<S: Store>(
         lo: cursor.lo,
         hi: cursor.hi,
     };
+    match next_told(store, block, &snapshot, wanted, row) {
+        Ok(Some(found)) => return Ok(found),
+        Ok(None) => {}
+        Err(Failed) => return Err(CrFault::Failed),
+    }
+    if clean_step(store, block, workspace).is_err() {
+        return Err(CrFault::Failed);
+    }
     next_at(store, block, &snapshot, wanted, scratch, copies, row)
 }
 

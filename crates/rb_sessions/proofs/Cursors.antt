@@ -1,10 +1,10 @@
 -- The cursors of a session at the first place of a name, as the table's view sees them.
-use Rattle.std.proofs.Common.{◌≡◌, ◌∙◌, ℕ, zero, suc, false, not, ◌&&◌, nat_lt, List, [], ◌∷◌, map, filter, get_or, set, Some, None, refl, ap}
+use Rattle.std.proofs.Common.{arith, length, ◌<◌, ◌≡◌, ◌∙◌, ℕ, zero, suc, false, not, ◌&&◌, nat_lt, List, [], ◌∷◌, map, filter, get_or, set, Some, None, refl, ap}
 use Rattle.std.proofs.lemmas.Bool.{cond-true, cond-false}
 use Rattle.std.specs.List.{position, remove}
 use Rattle.rb_sessions.specs.declared.cursor.Cursor.{Cursor}
 use Rattle.rb_sessions.specs.declared.named.Named.{Named}
-use Rattle.rb_sessions.specs.Kept.{cursor_view, left_open, named, passed, with_last, without}
+use Rattle.rb_sessions.specs.Kept.{IsPlaceOf, cursor_view, left_open, named, passed, with_last, without}
 use Rattle.rb_sessions.proofs.Places.{IsNowhere, IsPlace, filter_viewed, has_name, nowhere_of, place_of}
 
 -- the cursor with another last key
@@ -32,10 +32,6 @@ last-at name key [] i d at = absurd at
 last-at name key (c ∷ cursors) zero d at = cond-true (has_name name c) _ _ at
 last-at name key (c ∷ cursors) (suc i) d at = cond-false (has_name name c) _ _ at.0 ∙ ap (λ cs. cursor_view c ∷ cs) (last-at name key cursors i d at.1)
 
-last-none : (name : List ℕ) (key : ℕ) (cursors : List (Named Cursor)) → IsNowhere (has_name name) cursors → with_last name key (map cursor_view cursors) ≡ map cursor_view cursors
-last-none name key [] none = refl
-last-none name key (c ∷ cursors) none = cond-false (has_name name c) _ _ none.0 ∙ ap (λ cs. cursor_view c ∷ cs) (last-none name key cursors none.1)
-
 without-at : (name : List ℕ) (cursors : List (Named Cursor)) (i : ℕ) → IsPlace (has_name name) cursors i → without name (map cursor_view cursors) ≡ map cursor_view (remove cursors i)
 without-at name [] i at = absurd at
 without-at name (c ∷ cursors) zero at = cond-true (has_name name c) _ _ at
@@ -53,12 +49,25 @@ found name cursors i d is = named-at name cursors i d (place_of (has_name name) 
 pub not_found : (name : List ℕ) (cursors : List (Named Cursor)) → position (has_name name) cursors ≡ None → named name (map cursor_view cursors) ≡ None
 not_found name cursors is = named-none name cursors (nowhere_of (has_name name) cursors is)
 
-pub last_found : (name : List ℕ) (key : ℕ) (cursors : List (Named Cursor)) (i : ℕ) (d : Named Cursor) → position (has_name name) cursors ≡ Some i
-    → with_last name key (map cursor_view cursors) ≡ map cursor_view (set cursors i (given_last key (get_or cursors i d)))
-last_found name key cursors i d is = last-at name key cursors i d (place_of (has_name name) cursors i is)
+pub place_viewed : (name : List ℕ) (cursors : List (Named Cursor)) (i : ℕ) → position (has_name name) cursors ≡ Some i → (i < length (map cursor_view cursors)) × IsPlaceOf name (map cursor_view cursors) i
+place_viewed name cursors i is = viewed cursors i (place_of (has_name name) cursors i is)
+  where
+    viewed : (cs : List (Named Cursor)) (i : ℕ) → IsPlace (has_name name) cs i → (i < length (map cursor_view cs)) × IsPlaceOf name (map cursor_view cs) i
+    viewed [] i at = absurd at
+    viewed (c ∷ cs) zero at = (omega arith, at)
+    viewed (c ∷ cs) (suc i) at = let rest = viewed cs i at.1 in ((let lt = rest.0 in omega (arith, lt)), (at.0, rest.1))
 
-pub last_not_found : (name : List ℕ) (key : ℕ) (cursors : List (Named Cursor)) → position (has_name name) cursors ≡ None → with_last name key (map cursor_view cursors) ≡ map cursor_view cursors
-last_not_found name key cursors is = last-none name key cursors (nowhere_of (has_name name) cursors is)
+seen : (name : List ℕ) (cursors : List (Named Cursor)) (i : ℕ) → IsPlaceOf name (map cursor_view cursors) i → IsPlace (has_name name) cursors i
+seen name [] i at = absurd at
+seen name (c ∷ cursors) zero at = at
+seen name (c ∷ cursors) (suc i) at = (at.0, seen name cursors i at.1)
+
+pub there_at : (name : List ℕ) (cursors : List (Named Cursor)) (i : ℕ) (d : Named Cursor) → IsPlaceOf name (map cursor_view cursors) i → named name (map cursor_view cursors) ≡ Some (get_or cursors i d).value
+there_at name cursors i d at = named-at name cursors i d (seen name cursors i at)
+
+pub last_there : (name : List ℕ) (key : ℕ) (cursors : List (Named Cursor)) (i : ℕ) (d : Named Cursor) → IsPlaceOf name (map cursor_view cursors) i
+    → with_last name key (map cursor_view cursors) ≡ map cursor_view (set cursors i (given_last key (get_or cursors i d)))
+last_there name key cursors i d at = last-at name key cursors i d (seen name cursors i at)
 
 pub without_found : (name : List ℕ) (cursors : List (Named Cursor)) (i : ℕ) → position (has_name name) cursors ≡ Some i → without name (map cursor_view cursors) ≡ map cursor_view (remove cursors i)
 without_found name cursors i is = without-at name cursors i (place_of (has_name name) cursors i is)

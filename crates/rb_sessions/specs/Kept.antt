@@ -1,5 +1,5 @@
 -- What a contract sees of the table of sessions, and how its calls change it.
-use Rattle.std.specs.Prelude.{ℕ, ◌+◌, ◌-◌, ◌^◌, false, not, ◌&&◌, nat_lt, min, cond}
+use Rattle.std.specs.Prelude.{◌≡◌, ℕ, zero, suc, true, ◌+◌, ◌-◌, ◌^◌, false, not, ◌&&◌, nat_lt, min, cond}
 use Rattle.std.specs.Prelude.{List, [], ◌∷◌, ◌++◌, map, filter, get_or, set, Option, None, Some}
 use Rattle.std.specs.Option.{option_map}
 use Rattle.std.specs.Str.{bytes_eq}
@@ -149,6 +149,12 @@ with_cursor name c k = with_cursors k (k.cursors ++ record { name = name; cursor
 abbrev pub named : List ℕ → List KeptCursor → Option Cursor
 named name [] = None
 named name (c ∷ cursors) = cond (bytes_eq c.name name) (Some c.cursor) (named name cursors)
+
+-- the place of the first cursor of that name
+abbrev pub IsPlaceOf : List ℕ → List KeptCursor → ℕ → Type 0
+IsPlaceOf name [] i = ⊥
+IsPlaceOf name (c ∷ cursors) zero = bytes_eq c.name name ≡ true
+IsPlaceOf name (c ∷ cursors) (suc i) = (bytes_eq c.name name ≡ false) × IsPlaceOf name cursors i
 
 -- the cursors with that key as the last one of the first cursor of that name, and without it
 abbrev pub with_last : List ℕ → ℕ → List KeptCursor → List KeptCursor

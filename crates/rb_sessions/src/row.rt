@@ -1,6 +1,6 @@
 //! One session in the table: what is told of it, and how each call changes it. `Sessions` keeps sixteen.
 ghost use Rattle.std.specs.Option.{option_map};
-ghost use Rattle.std.specs.Prelude.{◌≡◌, ◌<◌, length, map};
+ghost use Rattle.std.specs.Prelude.{◌≡◌, ◌<◌, ℕ, List, length, map, None, Some, MatchOption};
 ghost use Rattle.rb_model.specs.Calls.{without_savepoint};
 ghost use Rattle.rb_model.specs.Names.{name_text};
 ghost use Rattle.rb_model.specs.State.{savepoint_named};
@@ -42,13 +42,13 @@ pub(crate) struct SessionRow {
     pub asked: Option<Pending>,
 }
 
-/// Notes the key of the last row that the first cursor of a name gave.
-fn mark_given(cursors: &mut [Named<Cursor>], name: &[u8], key: u64)
-    ensures { map cursor_view cursors.new ≡ kept.with_last name.now key (map cursor_view cursors.old) }
+/// Notes the key of the last row that the cursor at a place gave.
+fn mark_given(cursors: &mut [Named<Cursor>], place: usize, key: u64)
+    requires { place < length cursors.old }
+    ensures { (name : List ℕ) → kept.IsPlaceOf name (map cursor_view cursors.old) place
+        → map cursor_view cursors.new ≡ kept.with_last name key (map cursor_view cursors.old) }
 {
-    if let Some(place) = position_of(cursors, name) {
-        cursors[place].value.last = Some(key);
-    }
+    cursors[place].value.last = Some(key);
 }
 
 /// Notes that the transaction ends in which the cursors were opened.
@@ -184,12 +184,32 @@ impl SessionRow {
         Some(cursors[place].value)
     }
 
-    /// Notes the key of the last row that the cursor of that name gave.
-    pub fn take(&mut self, name: &Name, key: u64)
-        ensures { session_view self.new ≡ kept.with_cursors (session_view self.old)
-            (kept.with_last (name_text name.now) key (session_view self.old).cursors) }
+    /// The place of the first cursor of that name, where one is open.
+    pub fn place(&self, name: &Name) -> Option<usize>
+        ensures { MatchOption result (kept.named (name_text name.now) (session_view self.now).cursors ≡ None)
+            (λ place. (place < length (session_view self.now).cursors)
+            × kept.IsPlaceOf (name_text name.now) (session_view self.now).cursors place) }
     {
-        mark_given(self.cursors.as_mut_slice(), name.as_bytes(), key);
+        position_of(self.cursors.as_slice(), name.as_bytes())
+    }
+
+    /// The cursor at a place.
+    pub fn cursor_at(&self, place: usize) -> Cursor
+        requires { place < length (session_view self.now).cursors }
+        ensures { (name : List ℕ) → kept.IsPlaceOf name (session_view self.now).cursors place
+            → kept.named name (session_view self.now).cursors ≡ Some result }
+    {
+        self.cursors.as_slice()[place].value
+    }
+
+    /// Notes the key of the last row that the cursor at a place gave.
+    pub fn take_at(&mut self, place: usize, key: u64)
+        requires { place < length (session_view self.old).cursors }
+        ensures { (name : List ℕ) → kept.IsPlaceOf name (session_view self.old).cursors place
+            → session_view self.new ≡ kept.with_cursors (session_view self.old)
+            (kept.with_last name key (session_view self.old).cursors) }
+    {
+        mark_given(self.cursors.as_mut_slice(), place, key);
     }
 
     /// Closes the cursor of that name, if it is open.

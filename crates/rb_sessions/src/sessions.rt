@@ -1,7 +1,7 @@
 //! The table itself. The engine owns one, asks it who works in which transaction, and notes each call in it.
 ghost use Rattle.std.specs.Option.{option_map};
-ghost use Rattle.std.specs.Prelude.{◌≡◌, ◌≢◌, ◌≤◌, ◌<◌, ℕ, length, replicate};
-ghost use Rattle.std.specs.Prelude.{Some, IfOk, IfSome, IfNone};
+ghost use Rattle.std.specs.Prelude.{◌≡◌, ◌≢◌, ◌≤◌, ◌<◌, ℕ, List, length, replicate};
+ghost use Rattle.std.specs.Prelude.{None, Some, IfOk, IfSome, IfNone, MatchOption};
 ghost use Rattle.rb_model.specs.Calls.{without_savepoint};
 ghost use Rattle.rb_model.specs.Names.{name_text};
 ghost use Rattle.rb_model.specs.State.{savepoint_named};
@@ -165,13 +165,36 @@ impl Sessions {
         self.entries[s as usize - 1].cursor(name)
     }
 
-    /// Notes the key of the last row that the cursor of that name gave.
-    pub fn took(&mut self, s: u16, name: &Name, key: u64)
+    /// The place of the cursor of that name among those of session `s`. None exactly where it has no such one open. Who
+    /// reads the cursor and then notes a row of it seeks the name once.
+    pub fn cursor_place(&self, s: u16, name: &Name) -> Option<usize>
         requires { (1 ≤ s) × (s ≤ SESSIONS) }
-        ensures { self.new ≡ with_kept self.old s (kept.with_cursors (kept_at self.old s)
-            (kept.with_last (name_text name.now) key (kept_at self.old s).cursors)) }
+        ensures { MatchOption result (kept.named (name_text name.now) (kept_at self.now s).cursors ≡ None)
+            (λ place. (place < length (kept_at self.now s).cursors)
+            × kept.IsPlaceOf (name_text name.now) (kept_at self.now s).cursors place) }
     {
-        self.entries[s as usize - 1].take(name, key);
+        self.entries[s as usize - 1].place(name)
+    }
+
+    /// The cursor at a place of session `s`.
+    pub fn cursor_at(&self, s: u16, place: usize) -> Cursor
+        requires session { (1 ≤ s) × (s ≤ SESSIONS) }
+        requires place { place < length (kept_at self.now s).cursors }
+        ensures { (name : List ℕ) → kept.IsPlaceOf name (kept_at self.now s).cursors place
+            → kept.named name (kept_at self.now s).cursors ≡ Some result }
+    {
+        self.entries[s as usize - 1].cursor_at(place)
+    }
+
+    /// Notes the key of the last row that the cursor at a place of session `s` gave.
+    pub fn took_at(&mut self, s: u16, place: usize, key: u64)
+        requires session { (1 ≤ s) × (s ≤ SESSIONS) }
+        requires place { place < length (kept_at self.old s).cursors }
+        ensures { (name : List ℕ) → kept.IsPlaceOf name (kept_at self.old s).cursors place
+            → self.new ≡ with_kept self.old s (kept.with_cursors (kept_at self.old s)
+            (kept.with_last name key (kept_at self.old s).cursors)) }
+    {
+        self.entries[s as usize - 1].take_at(place, key);
     }
 
     /// Closes the cursor of that name, if it is open.

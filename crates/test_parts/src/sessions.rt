@@ -110,7 +110,9 @@ fn one_rolls_back(rt: HostRuntime) -> Result<(), Fail> {
 fn one_commits(rt: HostRuntime) -> Result<(), Fail> {
     let (early, late) = (name(b"early")?, name(b"late")?);
     let mut table = written(rt.alloc(), &early, &late)?;
-    table.took(1, &late, 7);
+    if let Some(place) = table.cursor_place(1, &late) {
+        table.took_at(1, place, 7);
+    }
     table.commit(1);
     let given = Cursor {
         last: Some(7),

@@ -1,4 +1,4 @@
-use Rattle.std.proofs.Common.{inl, ◌≡◌, ℕ, Bool, true, false, not, List, None, Some, Result, Ok, Err, refl, sym, ◌∙◌, ap, subst}
+use Rattle.std.proofs.Common.{inl, ◌<◌, Option, MatchOption, length, ◌≡◌, ℕ, Bool, true, false, not, List, None, Some, Result, Ok, Err, refl, sym, ◌∙◌, ap, subst}
 use Rattle.std.proofs.lemmas.Result.{err_from_is_err_and}
 use Rattle.rb_base.specs.Logs.{Laws, Logs}
 use Rattle.rb_cr.specs.Faults.{is_fault}
@@ -19,7 +19,7 @@ use Rattle.rb_model.specs.Calls.{Answer, Refused, MayAnswer, early_tests, none_a
 use Rattle.rb_model.specs.Names.{name_text}
 use Rattle.rb_model.specs.declared.refusal.Refusal.TheVariants.{NoCursor, TooOld}
 use Rattle.rb_model.specs.declared.row.Fetched.{Fetched}
-use Rattle.rb_sessions.specs.Kept.{KeptSession, kept_at, named, with_kept, with_last}
+use Rattle.rb_sessions.specs.Kept.{IsPlaceOf, KeptSession, kept_at, named, with_kept, with_last}
 use Rattle.rb_sessions.specs.Kept as table
 use Rattle.law_sessions.proofs.Cursors.{named_is}
 use Rattle.rb_engine.proofs.MakesLemmas.{makes_refused}
@@ -60,7 +60,7 @@ returns-in_default-clause-did g c = λ h st.
     let goes = st.goes going in
     let table_is : c.memory.inside.sessions ≡ kept.sessions = ap (λ (k : Kept). k.sessions) c.memory.view_is in
     let nothing : named name (kept_at kept.sessions c.args.s).cursors ≡ None =
-    ap (λ (l : List KeptSession). named name (kept_at l c.args.s).cursors) (sym table_is) ∙ (sym c.cursor.ensures ∙ c.in_default.is) in
+    ap (λ (l : List KeptSession). named name (kept_at l c.args.s).cursors) (sym table_is) ∙ (subst (λ (o : Option ℕ). MatchOption o (named name (kept_at c.memory.inside.sessions c.args.s).cursors ≡ None) (λ place. (place < length (kept_at c.memory.inside.sessions c.args.s).cursors) × IsPlaceOf name (kept_at c.memory.inside.sessions c.args.s).cursors place)) c.in_default.is c.cursor_place.ensures) in
     let none = (named_is h goes.xids _ c.args.s name kept.sessions goes.remembers e.session.0 e.session.1).0 nothing in
     does_refused_late s (laws_of g) h call NoCursor (record { memory = kept; store = c.args.store.now }) st c.requires.step.going
     (MayAnswer.later (machine.name_tests h call) (e.granted h st.knows) refl (answer_by h c.args.s name None (Refused NoCursor) none refl)) (λ clash. cc)
@@ -71,15 +71,15 @@ next_row-requires-clause-table g c =
     let kept = c.args.memory.now in
     let name = name_text c.args.name.now in
     let table_is : c.memory.inside.sessions ≡ kept.sessions = ap (λ (k : Kept). k.sessions) c.memory.view_is in
-    named_in (s.shape_of c.args.store.now) name (kept_at kept.sessions c.args.s).cursors c.in-Some.cursor (c.requires.step.tables c.args.s)
-    (ap (λ (l : List KeptSession). named name (kept_at l c.args.s).cursors) (sym table_is) ∙ (sym c.cursor.ensures ∙ c.in-Some.is))
+    named_in (s.shape_of c.args.store.now) name (kept_at kept.sessions c.args.s).cursors c.cursor_at-cursor.result (c.requires.step.tables c.args.s)
+    (ap (λ (l : List KeptSession). named name (kept_at l c.args.s).cursors) (sym table_is) ∙ (c.cursor_at-cursor.ensures (name_text c.args.name.now) c.in-Some.ensures.1))
 
 -- the table with the row's key as the cursor's last one
-moved_by : (g : Over) (c : goal.After-took g) → c.took.new.self ≡ with_kept c.args.memory.now.sessions c.args.s
+moved_by : (g : Over) (c : goal.After-took_at g) → c.took_at.new.self ≡ with_kept c.args.memory.now.sessions c.args.s
     (table.with_cursors (kept_at c.args.memory.now.sessions c.args.s) (with_last (name_text c.args.name.now) c.next_row.new.row.key (kept_at c.args.memory.now.sessions c.args.s).cursors))
 moved_by g c =
-    subst (λ (l : List KeptSession). c.took.new.self ≡ with_kept l c.args.s (table.with_cursors (kept_at l c.args.s) (with_last (name_text c.args.name.now) c.next_row.new.row.key (kept_at l c.args.s).cursors)))
-    (ap (λ (k : Kept). k.sessions) c.memory.view_is) c.took.ensures
+    subst (λ (l : List KeptSession). c.took_at.new.self ≡ with_kept l c.args.s (table.with_cursors (kept_at l c.args.s) (with_last (name_text c.args.name.now) c.next_row.new.row.key (kept_at l c.args.s).cursors)))
+    (ap (λ (k : Kept). k.sessions) c.memory.view_is) (c.took_at.ensures (name_text c.args.name.now) c.in-Some.ensures.1)
 
 pub returns-in-Ok-Row-clause-step : goal.returns-in-Ok-Row-clause-step
 returns-in-Ok-Row-clause-step g c =
@@ -87,7 +87,7 @@ returns-in-Ok-Row-clause-step g c =
     let kept = c.args.memory.now in
     let old = c.args.store.now in
     let new = c.next_row.new.store in
-    let now : Kept = record { sessions = c.took.new.self; waits = c.memory.inside.waits; scn = c.memory.inside.scn; stopped = c.memory.inside.stopped; copies = c.next_row.new.copies } in
+    let now : Kept = record { sessions = c.took_at.new.self; waits = c.memory.inside.waits; scn = c.memory.inside.scn; stopped = c.memory.inside.stopped; copies = c.next_row.new.copies } in
     let logs = c.in-Ok-Row.ensures.logs.1 in
     let step = c.requires.step in
     let at = kept_at kept.sessions c.args.s in
@@ -109,9 +109,9 @@ returns-in-Ok-Row-clause-did g c = λ h st.
     let e = c.in_ok-check_session.ensures in
     let logs = c.in-Ok-Row.ensures.logs.1 in
     let table_is : c.memory.inside.sessions ≡ kept.sessions = ap (λ (k : Kept). k.sessions) c.memory.view_is in
-    let is_named = ap (λ (l : List KeptSession). named name (kept_at l c.args.s).cursors) (sym table_is) ∙ (sym c.cursor.ensures ∙ c.in-Some.is) in
-    does_row s (laws_of g) h (record { memory = kept; store = c.args.store.now }) st (sym st.knows.stopped ∙ e.going) c.args.s e.session name (e.granted h st.knows) c.in-Some.cursor is_named
-    (record { memory = record { sessions = c.took.new.self; waits = c.memory.inside.waits; scn = c.memory.inside.scn; stopped = c.memory.inside.stopped; copies = c.next_row.new.copies }; store = c.next_row.new.store })
+    let is_named = ap (λ (l : List KeptSession). named name (kept_at l c.args.s).cursors) (sym table_is) ∙ (c.cursor_at-cursor.ensures (name_text c.args.name.now) c.in-Some.ensures.1) in
+    does_row s (laws_of g) h (record { memory = kept; store = c.args.store.now }) st (sym st.knows.stopped ∙ e.going) c.args.s e.session name (e.granted h st.knows) c.cursor_at-cursor.result is_named
+    (record { memory = record { sessions = c.took_at.new.self; waits = c.memory.inside.waits; scn = c.memory.inside.scn; stopped = c.memory.inside.stopped; copies = c.next_row.new.copies }; store = c.next_row.new.store })
     (record { shape = logs.same_shape; slots = logs.same_slots }) logs.failed c.next_row.new.row (Ok c.in-Ok-Row.field-0)
     (λ xids serves copies. c.in-Ok-Row.ensures.found st.told h xids serves (subst (λ (k : Kept). CopiesStand h xids (s.blocks c.args.store.now) k.copies.kept) (sym c.memory.view_is) copies)) (λ xids serves copies. c.in-Ok-Row.ensures.cleans st.told h xids serves (subst (λ (k : Kept). CopiesStand h xids (s.blocks c.args.store.now) k.copies.kept) (sym c.memory.view_is) copies)) (λ xids serves copies. c.in-Ok-Row.ensures.copies st.told h xids serves (subst (λ (k : Kept). CopiesStand h xids (s.blocks c.args.store.now) k.copies.kept) (sym c.memory.view_is) copies) refl) (ap (λ (f : Fetched). let r : Result Fetched CrFault = Ok f in r) c.in-Ok-Row.field-0-is)
     (ap (λ (k : Kept). k.stopped) c.memory.view_is) (ap (λ (k : Kept). k.scn) c.memory.view_is) (ap (λ (k : Kept). k.waits) c.memory.view_is) (moved_by g c)
@@ -125,10 +125,10 @@ returns-in-Ok-End-clause-did g c = λ h st.
     let logs = c.in-Ok-End.ensures.logs.1 in
     let old : EngineView _ = record { memory = kept; store = c.args.store.now } in
     let table_is : c.memory.inside.sessions ≡ kept.sessions = ap (λ (k : Kept). k.sessions) c.memory.view_is in
-    let is_named = ap (λ (l : List KeptSession). named name (kept_at l c.args.s).cursors) (sym table_is) ∙ (sym c.cursor.ensures ∙ c.in-Some.is) in
+    let is_named = ap (λ (l : List KeptSession). named name (kept_at l c.args.s).cursors) (sym table_is) ∙ (c.cursor_at-cursor.ensures (name_text c.args.name.now) c.in-Some.ensures.1) in
     let going : h.stopped ≡ false = sym st.knows.stopped ∙ e.going in
     let early = e.granted h st.knows in
-    does_end s (laws_of g) h old st going c.args.s e.session name early c.in-Some.cursor is_named (record { memory = record { sessions = c.memory.inside.sessions; waits = c.memory.inside.waits; scn = c.memory.inside.scn; stopped = c.memory.inside.stopped; copies = c.next_row.new.copies }; store = c.next_row.new.store })
+    does_end s (laws_of g) h old st going c.args.s e.session name early c.cursor_at-cursor.result is_named (record { memory = record { sessions = c.memory.inside.sessions; waits = c.memory.inside.waits; scn = c.memory.inside.scn; stopped = c.memory.inside.stopped; copies = c.next_row.new.copies }; store = c.next_row.new.store })
     (record { shape = logs.same_shape; slots = logs.same_slots }) logs.failed c.next_row.new.row (Ok c.in-Ok-End.field-0)
     (λ xids serves copies. c.in-Ok-End.ensures.found st.told h xids serves (subst (λ (k : Kept). CopiesStand h xids (s.blocks c.args.store.now) k.copies.kept) (sym c.memory.view_is) copies)) (λ xids serves copies. c.in-Ok-End.ensures.cleans st.told h xids serves (subst (λ (k : Kept). CopiesStand h xids (s.blocks c.args.store.now) k.copies.kept) (sym c.memory.view_is) copies)) (λ xids serves copies. c.in-Ok-End.ensures.copies st.told h xids serves (subst (λ (k : Kept). CopiesStand h xids (s.blocks c.args.store.now) k.copies.kept) (sym c.memory.view_is) copies) refl) (ap (λ (f : Fetched). let r : Result Fetched CrFault = Ok f in r) c.in-Ok-End.field-0-is) (ap (with_copies c.next_row.new.copies) c.memory.view_is)
 
@@ -141,12 +141,12 @@ returns-in-Err-TooOld-clause-did g c = λ h st.
     let logs = subst (λ (f : CrFault). Logs s c.args.store.now c.next_row.new.store c.in-Err-TooOld.ensures.logs.0 (not (is_fault f))) c.in-Err-TooOld.field-0-is c.in-Err-TooOld.ensures.logs.1 in
     let old : EngineView _ = record { memory = kept; store = c.args.store.now } in
     let table_is : c.memory.inside.sessions ≡ kept.sessions = ap (λ (k : Kept). k.sessions) c.memory.view_is in
-    let is_named = ap (λ (l : List KeptSession). named name (kept_at l c.args.s).cursors) (sym table_is) ∙ (sym c.cursor.ensures ∙ c.in-Some.is) in
+    let is_named = ap (λ (l : List KeptSession). named name (kept_at l c.args.s).cursors) (sym table_is) ∙ (c.cursor_at-cursor.ensures (name_text c.args.name.now) c.in-Some.ensures.1) in
     let going : h.stopped ≡ false = sym st.knows.stopped ∙ e.going in
     let early = e.granted h st.knows in
-    does_old s (laws_of g) h old st going c.args.s e.session name early c.in-Some.cursor is_named (record { memory = record { sessions = c.memory.inside.sessions; waits = c.memory.inside.waits; scn = c.memory.inside.scn; stopped = c.memory.inside.stopped; copies = c.next_row.new.copies }; store = c.next_row.new.store })
+    does_old s (laws_of g) h old st going c.args.s e.session name early c.cursor_at-cursor.result is_named (record { memory = record { sessions = c.memory.inside.sessions; waits = c.memory.inside.waits; scn = c.memory.inside.scn; stopped = c.memory.inside.stopped; copies = c.next_row.new.copies }; store = c.next_row.new.store })
     (record { shape = logs.same_shape; slots = logs.same_slots }) logs.failed c.next_row.new.row (Err c.in-Err-TooOld.field-0)
-    (λ xids serves copies. c.in-Err-TooOld.ensures.found st.told h xids serves (subst (λ (k : Kept). CopiesStand h xids (s.blocks c.args.store.now) k.copies.kept) (sym c.memory.view_is) copies)) (λ xids serves copies. by_fault s h xids (ReadIn h xids (s.blocks c.args.store.now) c.in-Some.cursor) h.shape.blocks c.args.store.now c.next_row.new.store true c.in-Err-TooOld.field-0 (faults.TooOld c.in-Err-TooOld.scn c.in-Err-TooOld.lost) c.in-Err-TooOld.field-0-is refl (c.in-Err-TooOld.ensures.cleans st.told h xids serves (subst (λ (k : Kept). CopiesStand h xids (s.blocks c.args.store.now) k.copies.kept) (sym c.memory.view_is) copies))) (λ xids serves copies. c.in-Err-TooOld.ensures.copies st.told h xids serves (subst (λ (k : Kept). CopiesStand h xids (s.blocks c.args.store.now) k.copies.kept) (sym c.memory.view_is) copies) (ap is_fault c.in-Err-TooOld.field-0-is)) c.in-Err-TooOld.scn c.in-Err-TooOld.lost (ap (λ (f : CrFault). let r : Result Fetched CrFault = Err f in r) c.in-Err-TooOld.field-0-is) (ap (with_copies c.next_row.new.copies) c.memory.view_is)
+    (λ xids serves copies. c.in-Err-TooOld.ensures.found st.told h xids serves (subst (λ (k : Kept). CopiesStand h xids (s.blocks c.args.store.now) k.copies.kept) (sym c.memory.view_is) copies)) (λ xids serves copies. by_fault s h xids (ReadIn h xids (s.blocks c.args.store.now) c.cursor_at-cursor.result) h.shape.blocks c.args.store.now c.next_row.new.store true c.in-Err-TooOld.field-0 (faults.TooOld c.in-Err-TooOld.scn c.in-Err-TooOld.lost) c.in-Err-TooOld.field-0-is refl (c.in-Err-TooOld.ensures.cleans st.told h xids serves (subst (λ (k : Kept). CopiesStand h xids (s.blocks c.args.store.now) k.copies.kept) (sym c.memory.view_is) copies))) (λ xids serves copies. c.in-Err-TooOld.ensures.copies st.told h xids serves (subst (λ (k : Kept). CopiesStand h xids (s.blocks c.args.store.now) k.copies.kept) (sym c.memory.view_is) copies) (ap is_fault c.in-Err-TooOld.field-0-is)) c.in-Err-TooOld.scn c.in-Err-TooOld.lost (ap (λ (f : CrFault). let r : Result Fetched CrFault = Err f in r) c.in-Err-TooOld.field-0-is) (ap (with_copies c.next_row.new.copies) c.memory.view_is)
 
 pub returns-in-Err-Failed-clause-did : goal.returns-in-Err-Failed-clause-did
 returns-in-Err-Failed-clause-did g c = rw c.fail.ensures.answer (λ h st.
@@ -157,9 +157,9 @@ returns-in-Err-Failed-clause-did g c = rw c.fail.ensures.answer (λ h st.
     let old : EngineView _ = record { memory = kept; store = c.args.store.now } in
     let going : h.stopped ≡ false = sym st.knows.stopped ∙ e.going in
     let name = name_text c.args.name.now in
-    let m = c.in-Some.cursor in
+    let m = c.cursor_at-cursor.result in
     let table_is : c.memory.inside.sessions ≡ kept.sessions = ap (λ (k : Kept). k.sessions) c.memory.view_is in
-    let is_named = ap (λ (l : List KeptSession). named name (kept_at l c.args.s).cursors) (sym table_is) ∙ (sym c.cursor.ensures ∙ c.in-Some.is) in
+    let is_named = ap (λ (l : List KeptSession). named name (kept_at l c.args.s).cursors) (sym table_is) ∙ (c.cursor_at-cursor.ensures (name_text c.args.name.now) c.in-Some.ensures.1) in
     let copies = c.next_row.new.copies in
     let stops : c.fail.new.self ≡ record (with_copies copies kept) { stopped = true } = c.fail.ensures.stopped ∙ ap (λ (k : Kept). record (with_copies copies k) { stopped = true }) c.memory.view_is in
     does_fault_known s st.told (laws_of g) h (machine.Fetch c.args.s (name_text c.args.name.now)) old (record { memory = c.fail.new.self; store = c.next_row.new.store }) st (e.granted h st.knows)
@@ -178,11 +178,11 @@ returns-in-Err-TooOld-clause-lost g c = λ h st scn lost is.
     let s = g.T.Store in
     let kept = c.args.memory.now in
     let name = name_text c.args.name.now in
-    let m = c.in-Some.cursor in
+    let m = c.cursor_at-cursor.result in
     let e = c.in_ok-check_session.ensures in
     let old : EngineView _ = record { memory = kept; store = c.args.store.now } in
     let table_is : c.memory.inside.sessions ≡ kept.sessions = ap (λ (k : Kept). k.sessions) c.memory.view_is in
-    let is_named = ap (λ (l : List KeptSession). named name (kept_at l c.args.s).cursors) (sym table_is) ∙ (sym c.cursor.ensures ∙ c.in-Some.is) in
+    let is_named = ap (λ (l : List KeptSession). named name (kept_at l c.args.s).cursors) (sym table_is) ∙ (c.cursor_at-cursor.ensures (name_text c.args.name.now) c.in-Some.ensures.1) in
     let numbers = same_old c.in-Err-TooOld.scn c.in-Err-TooOld.lost scn lost is in
     needs_lost s (laws_of g) h old st (sym st.knows.stopped ∙ e.going) c.args.s e.session name (e.granted h st.knows) m is_named c.in-Err-TooOld.field-0 scn lost
     (c.in-Err-TooOld.field-0-is ∙ rw (numbers.0, numbers.1) refl)
@@ -212,8 +212,8 @@ returns-in-Ok-Row-clause-cleans g c = λ h st looked.
     let name = name_text c.args.name.now in
     let e = c.in_ok-check_session.ensures in
     let table_is : c.memory.inside.sessions ≡ kept.sessions = ap (λ (k : Kept). k.sessions) c.memory.view_is in
-    let is_named = ap (λ (l : List KeptSession). named name (kept_at l c.args.s).cursors) (sym table_is) ∙ (sym c.cursor.ensures ∙ c.in-Some.is) in
-    cleans_read g.T.Store (laws_of g) h (record { memory = kept; store = c.args.store.now }) st (sym st.knows.stopped ∙ e.going) c.args.s e.session name (e.granted h st.knows) c.in-Some.cursor is_named
+    let is_named = ap (λ (l : List KeptSession). named name (kept_at l c.args.s).cursors) (sym table_is) ∙ (c.cursor_at-cursor.ensures (name_text c.args.name.now) c.in-Some.ensures.1) in
+    cleans_read g.T.Store (laws_of g) h (record { memory = kept; store = c.args.store.now }) st (sym st.knows.stopped ∙ e.going) c.args.s e.session name (e.granted h st.knows) c.cursor_at-cursor.result is_named
     (false ≡ false) c.next_row.new.store (Ok c.in-Ok-Row.field-0) (λ fine. (c.in-Ok-Row.field-0, refl)) (λ xids serves copies. c.in-Ok-Row.ensures.cleans st.told h xids serves (subst (λ (k : Kept). CopiesStand h xids (s.blocks c.args.store.now) k.copies.kept) (sym c.memory.view_is) copies))
 
 pub returns-in-Ok-End-clause-cleans : goal.returns-in-Ok-End-clause-cleans
@@ -223,8 +223,8 @@ returns-in-Ok-End-clause-cleans g c = λ h st looked.
     let name = name_text c.args.name.now in
     let e = c.in_ok-check_session.ensures in
     let table_is : c.memory.inside.sessions ≡ kept.sessions = ap (λ (k : Kept). k.sessions) c.memory.view_is in
-    let is_named = ap (λ (l : List KeptSession). named name (kept_at l c.args.s).cursors) (sym table_is) ∙ (sym c.cursor.ensures ∙ c.in-Some.is) in
-    cleans_read g.T.Store (laws_of g) h (record { memory = kept; store = c.args.store.now }) st (sym st.knows.stopped ∙ e.going) c.args.s e.session name (e.granted h st.knows) c.in-Some.cursor is_named
+    let is_named = ap (λ (l : List KeptSession). named name (kept_at l c.args.s).cursors) (sym table_is) ∙ (c.cursor_at-cursor.ensures (name_text c.args.name.now) c.in-Some.ensures.1) in
+    cleans_read g.T.Store (laws_of g) h (record { memory = kept; store = c.args.store.now }) st (sym st.knows.stopped ∙ e.going) c.args.s e.session name (e.granted h st.knows) c.cursor_at-cursor.result is_named
     (false ≡ false) c.next_row.new.store (Ok c.in-Ok-End.field-0) (λ fine. (c.in-Ok-End.field-0, refl)) (λ xids serves copies. c.in-Ok-End.ensures.cleans st.told h xids serves (subst (λ (k : Kept). CopiesStand h xids (s.blocks c.args.store.now) k.copies.kept) (sym c.memory.view_is) copies))
 
 pub returns-in-Err-TooOld-clause-cleans : goal.returns-in-Err-TooOld-clause-cleans
@@ -232,10 +232,10 @@ returns-in-Err-TooOld-clause-cleans g c = λ h st looked.
     let s = g.T.Store in
     let kept = c.args.memory.now in
     let name = name_text c.args.name.now in
-    let m = c.in-Some.cursor in
+    let m = c.cursor_at-cursor.result in
     let e = c.in_ok-check_session.ensures in
     let table_is : c.memory.inside.sessions ≡ kept.sessions = ap (λ (k : Kept). k.sessions) c.memory.view_is in
-    let is_named = ap (λ (l : List KeptSession). named name (kept_at l c.args.s).cursors) (sym table_is) ∙ (sym c.cursor.ensures ∙ c.in-Some.is) in
+    let is_named = ap (λ (l : List KeptSession). named name (kept_at l c.args.s).cursors) (sym table_is) ∙ (c.cursor_at-cursor.ensures (name_text c.args.name.now) c.in-Some.ensures.1) in
     cleans_read s (laws_of g) h (record { memory = kept; store = c.args.store.now }) st (sym st.knows.stopped ∙ e.going) c.args.s e.session name (e.granted h st.knows) m is_named
     (true ≡ false) c.next_row.new.store (Err c.in-Err-TooOld.field-0) (λ clash. (let clash2 : true ≡ false = clash in absurd cc))
     (λ xids serves copies. by_fault s h xids (ReadIn h xids (s.blocks c.args.store.now) m) h.shape.blocks c.args.store.now c.next_row.new.store true c.in-Err-TooOld.field-0 (faults.TooOld c.in-Err-TooOld.scn c.in-Err-TooOld.lost) c.in-Err-TooOld.field-0-is refl (c.in-Err-TooOld.ensures.cleans st.told h xids serves (subst (λ (k : Kept). CopiesStand h xids (s.blocks c.args.store.now) k.copies.kept) (sym c.memory.view_is) copies)))
@@ -257,8 +257,8 @@ returns-in-Ok-Row-clause-makes g c = λ h st fine.
     let name = name_text c.args.name.now in
     let e = c.in_ok-check_session.ensures in
     let table_is : c.memory.inside.sessions ≡ kept.sessions = ap (λ (k : Kept). k.sessions) c.memory.view_is in
-    let is_named = ap (λ (l : List KeptSession). named name (kept_at l c.args.s).cursors) (sym table_is) ∙ (sym c.cursor.ensures ∙ c.in-Some.is) in
-    read_by s (laws_of g) h (record { memory = kept; store = c.args.store.now }) st (sym st.knows.stopped ∙ e.going) c.args.s e.session name (e.granted h st.knows) c.in-Some.cursor is_named
+    let is_named = ap (λ (l : List KeptSession). named name (kept_at l c.args.s).cursors) (sym table_is) ∙ (c.cursor_at-cursor.ensures (name_text c.args.name.now) c.in-Some.ensures.1) in
+    read_by s (laws_of g) h (record { memory = kept; store = c.args.store.now }) st (sym st.knows.stopped ∙ e.going) c.args.s e.session name (e.granted h st.knows) c.cursor_at-cursor.result is_named
     (Unit {0}) c.next_row.new.store (Ok c.in-Ok-Row.field-0) (λ well. (c.in-Ok-Row.field-0, refl)) (λ xids serves copies. c.in-Ok-Row.ensures.cleans st.told h xids serves (subst (λ (k : Kept). CopiesStand h xids (s.blocks c.args.store.now) k.copies.kept) (sym c.memory.view_is) copies))
 
 pub returns-in-Ok-End-clause-makes : goal.returns-in-Ok-End-clause-makes
@@ -268,8 +268,8 @@ returns-in-Ok-End-clause-makes g c = λ h st fine.
     let name = name_text c.args.name.now in
     let e = c.in_ok-check_session.ensures in
     let table_is : c.memory.inside.sessions ≡ kept.sessions = ap (λ (k : Kept). k.sessions) c.memory.view_is in
-    let is_named = ap (λ (l : List KeptSession). named name (kept_at l c.args.s).cursors) (sym table_is) ∙ (sym c.cursor.ensures ∙ c.in-Some.is) in
-    read_by s (laws_of g) h (record { memory = kept; store = c.args.store.now }) st (sym st.knows.stopped ∙ e.going) c.args.s e.session name (e.granted h st.knows) c.in-Some.cursor is_named
+    let is_named = ap (λ (l : List KeptSession). named name (kept_at l c.args.s).cursors) (sym table_is) ∙ (c.cursor_at-cursor.ensures (name_text c.args.name.now) c.in-Some.ensures.1) in
+    read_by s (laws_of g) h (record { memory = kept; store = c.args.store.now }) st (sym st.knows.stopped ∙ e.going) c.args.s e.session name (e.granted h st.knows) c.cursor_at-cursor.result is_named
     (Unit {0}) c.next_row.new.store (Ok c.in-Ok-End.field-0) (λ well. (c.in-Ok-End.field-0, refl)) (λ xids serves copies. c.in-Ok-End.ensures.cleans st.told h xids serves (subst (λ (k : Kept). CopiesStand h xids (s.blocks c.args.store.now) k.copies.kept) (sym c.memory.view_is) copies))
 
 pub returns-in-Err-TooOld-clause-makes : goal.returns-in-Err-TooOld-clause-makes
@@ -279,8 +279,8 @@ returns-in-Err-TooOld-clause-makes g c = λ h st fine.
     let name = name_text c.args.name.now in
     let e = c.in_ok-check_session.ensures in
     let table_is : c.memory.inside.sessions ≡ kept.sessions = ap (λ (k : Kept). k.sessions) c.memory.view_is in
-    let is_named = ap (λ (l : List KeptSession). named name (kept_at l c.args.s).cursors) (sym table_is) ∙ (sym c.cursor.ensures ∙ c.in-Some.is) in
-    let m = c.in-Some.cursor in
+    let is_named = ap (λ (l : List KeptSession). named name (kept_at l c.args.s).cursors) (sym table_is) ∙ (c.cursor_at-cursor.ensures (name_text c.args.name.now) c.in-Some.ensures.1) in
+    let m = c.cursor_at-cursor.result in
     read_by s (laws_of g) h (record { memory = kept; store = c.args.store.now }) st (sym st.knows.stopped ∙ e.going) c.args.s e.session name (e.granted h st.knows) m is_named
     ⊥ c.next_row.new.store (Err c.in-Err-TooOld.field-0) (λ clash. absurd clash)
     (λ xids serves copies. by_fault s h xids (ReadIn h xids (s.blocks c.args.store.now) m) h.shape.blocks c.args.store.now c.next_row.new.store true c.in-Err-TooOld.field-0 (faults.TooOld c.in-Err-TooOld.scn c.in-Err-TooOld.lost) c.in-Err-TooOld.field-0-is refl (c.in-Err-TooOld.ensures.cleans st.told h xids serves (subst (λ (k : Kept). CopiesStand h xids (s.blocks c.args.store.now) k.copies.kept) (sym c.memory.view_is) copies)))

@@ -1,15 +1,20 @@
-use Rattle.std.proofs.Common.{◌≡◌, ◌<◌, ◌≤◌, ◌+◌, ◌-◌, ◌*◌, ◌%◌, ◌++◌, ℕ, List, [], length, true, false, not, Some, IfOk, Result, Ok, Err, ◌∙◌, refl, sym, ap, subst, arith, length-append}
+use Rattle.std.proofs.Common.{Bool, IfErr, IfSome, Option, ◌≡◌, ◌<◌, ◌≤◌, ◌+◌, ◌-◌, ◌*◌, ◌%◌, ◌++◌, ℕ, List, [], length, true, false, not, Some, IfOk, Result, Ok, Err, ◌∙◌, refl, sym, ap, subst, arith, length-append}
 use Rattle.std.specs.Result.{is_err}
-use Rattle.rb_base.specs.Blocks.{table_blocks}
+use Rattle.rb_base.specs.Blocks.{block_of, table_blocks}
 use Rattle.rb_base.specs.Logs.{Laws, Logs, more_logs, no_logs}
 use Rattle.rb_base.specs.declared.ids.Xid.{Xid}
 use Rattle.rb_base.specs.declared.shape.Shape.{Shape}
 use Rattle.rb_cr.specs.Faults.{is_failed}
 use Rattle.rb_cr.specs.declared.faults.CrFault.{CrFault}
-use Rattle.rb_engine.specs.Cleaning.{HasCleaned, IsHere, IsOnTheWay, Serves}
+use Rattle.rb_heap.specs.Cleaning.{cleaned_home}
+use Rattle.rb_heap.specs.Homes.{home_of}
+use Rattle.rb_txntable.specs.declared.looks.Look.{Look}
+use Rattle.law_blocks.specs.Standing.{env_of}
+use Rattle.rb_engine.specs.Cleaning.{Cleans, HasCleaned, IsClean, IsHere, IsOnTheWay, Serves}
 use Rattle.rb_engine.specs.Scanning.{Begins, HasKey, HasNext, HasNone, IsBehind}
-use Rattle.rb_engine.proofs.CleanLemmas.{behind_same, cleans_loaded, env_same, in_table, next_same, none_cleaned, none_same, same_or_clean, serves_on, step_cleaned, step_fails}
-use Rattle.rb_engine.proofs.FetchLemmas.{found_next, is_behind}
+use Rattle.rb_engine.proofs.CleanLemmas.{behind_same, cleans_loaded, env_same, in_table, loaded_cleans, next_same, none_cleaned, none_same, same_or_clean, serves_loaded, serves_on, step_cleaned, step_fails}
+use Rattle.rb_engine.proofs.DoesLemmas.{fault_survives}
+use Rattle.rb_engine.proofs.FetchLemmas.{found_next, home_read, is_behind}
 use Rattle.rb_engine.proofs.SharedLemmas.{read_with, reads_keep}
 use Rattle.law_copies.specs.Copies.{CopiesStand}
 use Rattle.law_copies.proofs.Outliving.{same_keeps}
@@ -56,19 +61,77 @@ returns-then-not-is_asked-clause-cleans g c = λ told h xids serves.
 pub returns-then-not-is_asked-clause-logs : goal.returns-then-not-is_asked-clause-logs
 returns-then-not-is_asked-clause-logs g c = ([], no_logs g.S.Store c.args.store.now c.requires.going, omega arith)
 
+-- the block told its rows, and has nothing to clean
+pub returns-in-Ok-Some-clause-told : goal.returns-in-Ok-Some-clause-told
+returns-in-Ok-Some-clause-told g c = λ told h xids serves copies.
+    let s = g.S.Store in
+    let m = c.args.cursor.now in
+    let old = s.blocks c.args.store.now in
+    let shape = c.shape-blocks.ensures.shape in
+    let bs : c.shape-blocks.result.blocks ≡ (s.shape_of c.args.store.now).blocks = ap (λ (k : Shape). k.blocks) shape in
+    let way = on_way (s.shape_of c.args.store.now) h.shape m c.shape-blocks.result.blocks c.args.first c.args.g serves.shape bs c.requires.there (c.is_asked.ensures.some c.if-not-is_asked.false) c.requires.begins in
+    let at = block_at m.table c.from.result c.shape-blocks.result.blocks c.args.g h.shape c.from.ensures (bs ∙ ap (λ (k : Shape). k.blocks) serves.shape) in
+    let hist = history h xids old (home_in h.shape m.table c.args.g) m.own in
+    let read = home_read h xids old m serves.reader c.args.g way.there (s.shape_of c.args.store.now) serves.shape _ at in
+    let begins = subst (λ (k : Shape). Begins k.blocks c.args.first c.args.g m.last) serves.shape c.requires.begins in
+    let is : (found : Bool) → c.in-Ok-Some.found ≡ found → c.next_told.result ≡ Ok (Some found) = λ found same. cc in
+    found_next h xids old m serves.reader c.args.g way.there c.args.first begins c.after_in.result c.after_in.ensures c.next_told.new.row (Ok c.in-Ok-Some.found)
+    (λ yes. c.next_told.ensures.given told hist read (is true yes)) (λ no. c.next_told.ensures.none told hist read (is false no))
+
+pub returns-in-Ok-Some-clause-cleans : goal.returns-in-Ok-Some-clause-cleans
+returns-in-Ok-Some-clause-cleans g c = λ told h xids serves.
+    let s = g.S.Store in
+    let m = c.args.cursor.now in
+    let old = c.args.store.now in
+    let new = c.next_told.new.store in
+    let logs = c.in-Ok-Some.ensures.logs in
+    let bs : c.shape-blocks.result.blocks ≡ h.shape.blocks = ap (λ (k : Shape). k.blocks) (c.shape-blocks.ensures.shape ∙ serves.shape) in
+    let at = block_at m.table c.from.result c.shape-blocks.result.blocks c.args.g h.shape c.from.ensures bs in
+    let block = (c.from.result - 1) * c.shape-blocks.result.blocks + c.args.g in
+    let rest : (look : Xid → Look) → cleaned_home look (home_of (block_of (s.blocks old) block)) ≡ home_of (block_of (s.blocks old) block) =
+    subst (λ (o : Option Bool). IfSome o (λ found. (look : Xid → Look) → cleaned_home look (home_of (block_of (s.blocks old) block)) ≡ home_of (block_of (s.blocks old) block))) c.in-Ok-Some.field-0-is (c.in-Ok-Some.ensures.clean told) in
+    none_cleaned s told (laws_of g) h xids m (IsHere h.shape m c.args.g) (IsHere h.shape m c.args.g) 1 old new serves logs
+    (λ b is young. subst (IsClean h.shape (s.blocks old) (s.blocks new)) (at ∙ sym is.1)
+    (ap (λ (z : List (List ℕ)). home_of (block_of z block)) (logs.blocks told refl) ∙ sym (rest (env_of h.shape (s.blocks old)).look)))
+
+pub returns-in-Ok-Some-clause-copies : goal.returns-in-Ok-Some-clause-copies
+returns-in-Ok-Some-clause-copies g c = λ told h xids serves copies fine.
+    subst (λ (z : List (List ℕ)). CopiesStand h xids z c.args.copies.now.kept) (sym (c.in-Ok-Some.ensures.logs.blocks told refl)) copies
+
+pub returns-in-Err-clause-cleans : goal.returns-in-Err-clause-cleans
+returns-in-Err-clause-cleans g c = λ told h xids serves fault keeps.
+    fault_survives g.S.Store told (laws_of g) h xids c.args.store.now c.next_told.new.store serves.shape serves.holds c.in-Err.ensures.logs keeps
+
 pub returns-then-is_err-clause-cleans : goal.returns-then-is_err-clause-cleans
 returns-then-is_err-clause-cleans g c = λ told h xids serves.
     let s = g.S.Store in
     let m = c.args.cursor.now in
+    let logs = c.in-Ok-None.ensures.logs in
     let shape = c.shape-blocks.ensures.shape in
     let bs : c.shape-blocks.result.blocks ≡ (s.shape_of c.args.store.now).blocks = ap (λ (k : Shape). k.blocks) shape in
     let on = on_way (s.shape_of c.args.store.now) h.shape m c.shape-blocks.result.blocks c.args.first c.args.g serves.shape bs c.requires.there (c.is_asked.ensures.some c.if-not-is_asked.false) c.requires.begins in
     let at = block_at m.table c.from.result c.shape-blocks.result.blocks c.args.g h.shape c.from.ensures (bs ∙ ap (λ (k : Shape). k.blocks) serves.shape) in
-    step_fails s told (laws_of g) h xids m c.args.g on c.args.store.now c.clean_step.new.store ((c.from.result - 1) * c.shape-blocks.result.blocks + c.args.g) c.clean_step.result at (sym c.is_err.ensures.value ∙ c.if-is_err.true) serves
-    (c.clean_step.ensures.gives told h xids serves.shape serves.holds)
+    let loaded = serves_loaded s told (laws_of g) h xids m c.args.store.now c.next_told.new.store serves logs in
+    loaded_cleans s told (laws_of g) h xids m (IsHere h.shape m c.args.g) (IsHere h.shape m c.args.g) 1 c.args.store.now c.next_told.new.store c.clean_step.new.store false serves logs
+    (step_fails s told (laws_of g) h xids m c.args.g on c.next_told.new.store c.clean_step.new.store ((c.from.result - 1) * c.shape-blocks.result.blocks + c.args.g) c.clean_step.result at (sym c.is_err.ensures.value ∙ c.if-is_err.true) loaded
+    (c.clean_step.ensures.gives told h xids loaded.shape loaded.holds))
+
+pub returns-then-is_err-clause-logs : goal.returns-then-is_err-clause-logs
+returns-then-is_err-clause-logs g c =
+    let s = g.S.Store in
+    let step = c.clean_step.ensures.logs in
+    let fails : Logs s c.next_told.new.store c.clean_step.new.store step.0 false = subst (λ fails. Logs s c.next_told.new.store c.clean_step.new.store step.0 (not fails)) (sym c.is_err.ensures.value ∙ c.if-is_err.true) step.1 in
+    ([] ++ step.0, more_logs s c.args.store.now c.next_told.new.store c.clean_step.new.store [] step.0 false c.in-Ok-None.ensures.logs fails, step.2)
 
 -- the home is cleaned, where it is to be
 module _ (g : Over) (c : goal.After-next_at g) (told : g.S.Store.tells) (h : State) (xids : List Xid) (serves : Serves g.S.Store h xids c.args.cursor.now c.args.store.now) where
+  -- the load before changed nothing
+  loaded : Serves g.S.Store h xids c.args.cursor.now c.next_told.new.store
+  loaded = serves_loaded g.S.Store told (laws_of g) h xids c.args.cursor.now c.args.store.now c.next_told.new.store serves c.in-Ok-None.ensures.logs
+
+  as_before : g.S.Store.blocks c.next_told.new.store ≡ g.S.Store.blocks c.args.store.now
+  as_before = c.in-Ok-None.ensures.logs.blocks told refl
+
   bs : c.shape-blocks.result.blocks ≡ h.shape.blocks
   bs = ap (λ (k : Shape). k.blocks) (c.shape-blocks.ensures.shape ∙ serves.shape)
 
@@ -81,16 +144,16 @@ module _ (g : Over) (c : goal.After-next_at g) (told : g.S.Store.tells) (h : Sta
   fine : is_err c.clean_step.result ≡ false
   fine = sym c.is_err.ensures.value ∙ c.if-is_err.false
 
-  clean : HasCleaned g.S.Store h xids (IsHere h.shape c.args.cursor.now c.args.g) (IsHere h.shape c.args.cursor.now c.args.g) 1 c.args.store.now c.clean_step.new.store
+  clean : HasCleaned g.S.Store h xids (IsHere h.shape c.args.cursor.now c.args.g) (IsHere h.shape c.args.cursor.now c.args.g) 1 c.next_told.new.store c.clean_step.new.store
   clean =
-      step_cleaned g.S.Store told (laws_of g) h xids c.args.cursor.now c.args.g on c.args.store.now c.clean_step.new.store ((c.from.result - 1) * c.shape-blocks.result.blocks + c.args.g) c.clean_step.result at fine serves
-      (c.clean_step.ensures.gives told h xids serves.shape serves.holds) (λ young. c.clean_step.ensures.cleaned told h xids serves.shape serves.holds young)
+      step_cleaned g.S.Store told (laws_of g) h xids c.args.cursor.now c.args.g on c.next_told.new.store c.clean_step.new.store ((c.from.result - 1) * c.shape-blocks.result.blocks + c.args.g) c.clean_step.result at fine loaded
+      (c.clean_step.ensures.gives told h xids loaded.shape loaded.holds) (λ young. c.clean_step.ensures.cleaned told h xids loaded.shape loaded.holds young)
 
-  same_shape : g.S.Store.shape_of c.clean_step.new.store ≡ g.S.Store.shape_of c.args.store.now
+  same_shape : g.S.Store.shape_of c.clean_step.new.store ≡ g.S.Store.shape_of c.next_told.new.store
   same_shape = c.clean_step.ensures.logs.1.same_shape
 
   mid : Serves g.S.Store h xids c.args.cursor.now c.clean_step.new.store
-  mid = serves_on g.S.Store told (laws_of g) h xids c.args.cursor.now c.args.store.now c.clean_step.new.store same_shape serves clean
+  mid = serves_on g.S.Store told (laws_of g) h xids c.args.cursor.now c.next_told.new.store c.clean_step.new.store same_shape loaded clean
 
   abbrev blocks : List (List ℕ)
   blocks = g.S.Store.blocks c.clean_step.new.store
@@ -100,18 +163,20 @@ module _ (g : Over) (c : goal.After-next_at g) (told : g.S.Store.tells) (h : Sta
 
   -- what is kept stands as the home is cleaned
   here : CopiesStand h xids (g.S.Store.blocks c.args.store.now) c.args.copies.now.kept → CopiesStand h xids blocks c.args.copies.now.kept
-  here copies = same_keeps h h refl xids (g.S.Store.blocks c.args.store.now) blocks c.args.copies.now.kept refl clean.only.segments copies
+  here copies =
+      same_keeps h h refl xids (g.S.Store.blocks c.next_told.new.store) blocks c.args.copies.now.kept refl clean.only.segments
+      (subst (λ (z : List (List ℕ)). CopiesStand h xids z c.args.copies.now.kept) (sym as_before) copies)
 
   b_in : home_in h.shape c.args.cursor.now.table c.args.g < table_blocks h.shape
   b_in = in_table c.args.cursor.now.table c.args.g h.shape on.there (subst (λ (k : Shape). (1 ≤ c.args.cursor.now.table) × (c.args.cursor.now.table ≤ k.tables)) serves.shape c.requires.table)
 
-  abbrev env : Rattle.law_blocks.specs.Standing.env_of h.shape blocks ≡ Rattle.law_blocks.specs.Standing.env_of h.shape (g.S.Store.blocks c.args.store.now)
-  env = env_same h.shape (g.S.Store.blocks c.args.store.now) blocks clean.only.segments
+  abbrev env : Rattle.law_blocks.specs.Standing.env_of h.shape blocks ≡ Rattle.law_blocks.specs.Standing.env_of h.shape (g.S.Store.blocks c.next_told.new.store)
+  env = env_same h.shape (g.S.Store.blocks c.next_told.new.store) blocks clean.only.segments
 
 pub returns-clause-told : goal.returns-clause-told
 returns-clause-told g c = λ told h xids serves copies.
     let m = c.args.cursor.now in
-    let old = g.S.Store.blocks c.args.store.now in
+    let old = g.S.Store.blocks c.next_told.new.store in
     let b = g.S.Store.blocks c.clean_step.new.store in
     let served = mid g c told h xids serves in
     let way = on g c told h xids serves in
@@ -119,8 +184,10 @@ returns-clause-told g c = λ told h xids serves copies.
     let begins = subst (λ (k : Shape). Begins k.blocks c.args.first c.args.g m.last) serves.shape c.requires.begins in
     let found = found_next h xids b m served.reader c.args.g way.there c.args.first begins c.after_in.result c.after_in.ensures c.next_at.new.row c.next_at.result
     (c.next_at.ensures.given told (hist g c told h xids serves) read) (c.next_at.ensures.none told (hist g c told h xids serves) read) in
-    before (HasNext h xids b m c.args.g c.next_at.new.row) (HasNext h xids old m c.args.g c.next_at.new.row) (HasNone h xids b m c.args.g) (HasNone h xids old m c.args.g)
-    (next_same h xids old b m (env g c told h xids serves) c.args.g c.next_at.new.row) (none_same h xids old b m (env g c told h xids serves) c.args.g) c.next_at.result found
+    subst (λ (z : List (List ℕ)). IfOk c.next_at.result (λ found. (found ≡ true → HasNext h xids z m c.args.g c.next_at.new.row) × (found ≡ false → HasNone h xids z m c.args.g)))
+    (as_before g c told h xids serves)
+    (before (HasNext h xids b m c.args.g c.next_at.new.row) (HasNext h xids old m c.args.g c.next_at.new.row) (HasNone h xids b m c.args.g) (HasNone h xids old m c.args.g)
+    (next_same h xids old b m (env g c told h xids serves) c.args.g c.next_at.new.row) (none_same h xids old b m (env g c told h xids serves) c.args.g) c.next_at.result found)
   where
     before : (N N2 E E2 : Type 0) → (N → N2) → (E → E2) → (r : Result Rattle.std.proofs.Common.Bool CrFault) → IfOk r (λ found. (found ≡ true → N) × (found ≡ false → E)) → IfOk r (λ found. (found ≡ true → N2) × (found ≡ false → E2))
     before N N2 E E2 one two (Ok found) is = (λ yes. one (is.0 yes), λ no. two (is.1 no))
@@ -129,26 +196,32 @@ returns-clause-told g c = λ told h xids serves copies.
 pub returns-clause-old : goal.returns-clause-old
 returns-clause-old g c = λ told h xids serves copies.
     let m = c.args.cursor.now in
-    let old = g.S.Store.blocks c.args.store.now in
+    let old = g.S.Store.blocks c.next_told.new.store in
     let b = g.S.Store.blocks c.clean_step.new.store in
     let served = mid g c told h xids serves in
     let way = on g c told h xids serves in
     let read = read_with h xids b m served.reader c.args.g way.there (g.S.Store.shape_of c.clean_step.new.store) served.shape _ (at g c told h xids serves) c.args.copies.now.kept (here g c told h xids serves copies) in
     let behind = is_behind h xids b m c.args.g (g.S.Store.shape_of c.clean_step.new.store) served.shape _ (at g c told h xids serves) way.key c.next_at.result (c.next_at.ensures.old told (hist g c told h xids serves) read) in
     let there : home_in h.shape m.table c.args.g < table_blocks h.shape = in_table m.table c.args.g h.shape way.there (subst (λ (k : Shape). (1 ≤ m.table) × (m.table ≤ k.tables)) serves.shape c.requires.table) in
-    Rattle.std.proofs.lemmas.Result.IfErr-weaker c.next_at.result (λ fault. HasKey h.shape.blocks m.lo m.hi c.args.g × IsBehind h xids b m c.args.g fault) (λ fault. HasKey h.shape.blocks m.lo m.hi c.args.g × IsBehind h xids old m c.args.g fault)
-    (λ fault is. (is.0, behind_same h xids old b serves.holds.blocks m c.args.g there (env g c told h xids serves) (same_or_clean ((clean g c told h xids serves).only.each (home_in h.shape m.table c.args.g))) fault is.1)) behind
+    subst (λ (z : List (List ℕ)). IfErr c.next_at.result (λ fault. HasKey h.shape.blocks m.lo m.hi c.args.g × IsBehind h xids z m c.args.g fault))
+    (as_before g c told h xids serves)
+    (Rattle.std.proofs.lemmas.Result.IfErr-weaker c.next_at.result (λ fault. HasKey h.shape.blocks m.lo m.hi c.args.g × IsBehind h xids b m c.args.g fault) (λ fault. HasKey h.shape.blocks m.lo m.hi c.args.g × IsBehind h xids old m c.args.g fault)
+    (λ fault is. (is.0, behind_same h xids old b (loaded g c told h xids serves).holds.blocks m c.args.g there (env g c told h xids serves) (same_or_clean ((clean g c told h xids serves).only.each (home_in h.shape m.table c.args.g))) fault is.1)) behind)
 
 pub returns-clause-cleans : goal.returns-clause-cleans
 returns-clause-cleans g c = λ told h xids serves.
-    cleans_loaded g.S.Store told (laws_of g) h xids c.args.cursor.now c.args.store.now c.clean_step.new.store c.next_at.new.store (not (is_failed c.next_at.result)) serves (same_shape g c told h xids serves) c.clean_step.ensures.logs.1.same_slots (clean g c told h xids serves) c.next_at.ensures.logs
+    let m = c.args.cursor.now in
+    let going = not (is_failed c.next_at.result) in
+    loaded_cleans g.S.Store told (laws_of g) h xids m (IsHere h.shape m c.args.g) (IsHere h.shape m c.args.g) 1 c.args.store.now c.next_told.new.store c.next_at.new.store going serves c.in-Ok-None.ensures.logs
+    (cleans_loaded g.S.Store told (laws_of g) h xids m c.next_told.new.store c.clean_step.new.store c.next_at.new.store going (loaded g c told h xids serves) (same_shape g c told h xids serves) c.clean_step.ensures.logs.1.same_slots (clean g c told h xids serves) c.next_at.ensures.logs)
 
 pub returns-clause-logs : goal.returns-clause-logs
 returns-clause-logs g c =
     let s = g.S.Store in
     let step = c.clean_step.ensures.logs in
-    let well : Logs s c.args.store.now c.clean_step.new.store step.0 true = subst (λ going. Logs s c.args.store.now c.clean_step.new.store step.0 (not going)) (sym c.is_err.ensures.value ∙ c.if-is_err.false) step.1 in
-    (step.0 ++ [], more_logs s c.args.store.now c.clean_step.new.store c.next_at.new.store step.0 [] (not (is_failed c.next_at.result)) well c.next_at.ensures.logs, (let n = length-append step.0 [] in let few = step.2 in omega (arith, n, few)))
+    let well : Logs s c.next_told.new.store c.clean_step.new.store step.0 true = subst (λ going. Logs s c.next_told.new.store c.clean_step.new.store step.0 (not going)) (sym c.is_err.ensures.value ∙ c.if-is_err.false) step.1 in
+    let cleaned = more_logs s c.args.store.now c.next_told.new.store c.clean_step.new.store [] step.0 true c.in-Ok-None.ensures.logs well in
+    (step.0 ++ [], more_logs s c.args.store.now c.clean_step.new.store c.next_at.new.store step.0 [] (not (is_failed c.next_at.result)) cleaned c.next_at.ensures.logs, (let n = length-append step.0 [] in let few = step.2 in omega (arith, n, few)))
 
 pub returns-clause-copies : goal.returns-clause-copies
 returns-clause-copies g c = λ told h xids serves copies fine.
