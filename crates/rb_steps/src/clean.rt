@@ -19,6 +19,8 @@ use rb_cleanout::plan_clean;
 /// Cleans block `no`, which is one of rows, of the transactions that have ended: by one group, which waits, or
 /// by none where there is nothing to clean, or where the log is worn out. That is asked first, as each block of such a
 /// file is still read. `Failed` only where a call of the store failed.
+// Most blocks that are read have nothing to clean, and aren't to pay for it.
+#[inline(never)]
 pub fn clean_step<S: Store>(
     store: &mut S,
     no: BlockNo,

@@ -12,5 +12,5 @@ returns c = λ name at.
     let here : kept.kept_at c.args.self.now c.args.s ≡ kept.session_view d =
     ap (λ (t : List kept.KeptSession). get_or t (c.args.s - 1) kept.fresh) (sym c.self.view_is) ∙ get_or-map kept.session_view items (c.args.s - 1) d kept.fresh within
     ∙ ap kept.session_view (sym c.index_mut.ensures.value) in
-    changed_at items (c.args.s - 1) c.take_at.new.self d (λ k. kept.with_cursors k (kept.with_last name c.args.key k.cursors)) c.args.self.now c.self.invariant within c.self.view_is c.index_mut.ensures.value
+    changed_at items (c.args.s - 1) c.take_at.new.self d (λ k. kept.with_cursors k (kept.with_last name c.args.key k.cursors)) c.args.self.now c.self.invariant (search rules) c.self.view_is c.index_mut.ensures.value
     (c.take_at.ensures name (subst (λ (k : kept.KeptSession). kept.IsPlaceOf name k.cursors c.args.place) here at))
