@@ -1,4 +1,4 @@
-use Rattle.std.proofs.Common.{sym, ◌≡◌, ◌∙◌, ap, ◌≢◌, ℕ, List, [], Err, true, false, Bool, not, rules}
+use Rattle.std.proofs.Common.{sym, ◌≡◌, ◌∙◌, ap, ◌≢◌, ℕ, List, [], Err, true, false, Bool, not}
 use Rattle.rb_base.specs.Logs.{Laws, Logs, more_logs}
 use Rattle.rb_base.specs.declared.faults.OpenFault.{OpenFault}
 use Rattle.rb_base.specs.declared.faults.OpenFault.TheVariants.{Failed, NotAStore}
