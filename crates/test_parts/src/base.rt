@@ -4,7 +4,7 @@ use rb_base::{Group, Shape, parse_decimal, put_u16, put_u32, put_u64, u16_at, u3
 
 #[test]
 fn decimals(rt: HostRuntime) {
-    let rows: [(&[u8], Option<u64>); 12] = [
+    let rows: [(&[u8], Option<u64>); 15] = [
         (b"0", Some(0)),
         (b"9", Some(9)),
         (b"10", Some(10)),
