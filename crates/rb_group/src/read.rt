@@ -1,5 +1,5 @@
 //! Reads the bytes of a group. The log calls it.
-ghost use Rattle.std.specs.Prelude.{◌≡◌, ◌≢◌, ℕ, List, [], ◌++◌, length, IfSome, IfNone};
+ghost use Rattle.std.specs.Prelude.{◌≡◌, ◌≢◌, ℕ, List, [], ◌++◌, length, true, false, IfSome, IfNone};
 ghost use Rattle.rb_base.specs.Groups.{Patch, patch, group_length, IsPatch, IsGroup};
 ghost use Rattle.rb_group.specs.Spelling.{patch_bytes, group_bytes, SpellsGroup};
 
@@ -45,28 +45,29 @@ fn read_patch(bytes: &[u8]) -> Option<(Found<'_>, &[u8])>
     Some((found, rest))
 }
 
-/// The group whose spelling the bytes are. None exactly where they are the spelling of none.
-pub fn decode(bytes: &[u8]) -> Option<Group>
-    ensures found { IfSome result (SpellsGroup bytes.now) }
-    ensures none { IfNone result ((patches : List Patch) → ¬ SpellsGroup bytes.now patches) }
+/// Puts the group whose spelling the bytes are into `group`, and says whether there is one. Where there is none, what
+/// `group` holds then is no matter.
+pub fn decode(bytes: &[u8], group: &mut Group) -> bool
+    ensures found { result ≡ true → SpellsGroup bytes.now group.new }
+    ensures none { result ≡ false → (patches : List Patch) → ¬ SpellsGroup bytes.now patches }
 {
     if bytes.len() < 2 || bytes.len() > GROUP_BYTES {
-        return None;
+        return false;
     }
     let count = u16_at(bytes, 0);
     if count < 1 || count as usize > GROUP_PATCHES {
-        return None;
+        return false;
     }
-    let mut group = Group::new();
+    group.clear();
     let mut rest = &bytes[2..];
     for _ in 0..count {
         let Some((patch, behind)) = read_patch(rest) else {
-            return None;
+            return false;
         };
         group.push(patch.block, patch.at, patch.bytes);
         rest = behind;
     }
-    if rest.is_empty() { Some(group) } else { None }
+    rest.is_empty()
 }
 
 /// No two groups have one spelling, and no spelling is the front of another. Each has as many bytes as its

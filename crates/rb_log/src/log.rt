@@ -101,31 +101,38 @@ impl Log {
         })
     }
 
-    /// The group of a number, one more than the last. None is the end: a closed gate, or the last place, which stays
-    /// free. NotAStore is an open slot without such a group. It reads units ahead, which must be those of this file.
-    pub fn scan<D: Disk>(&mut self, disk: &mut D, next: Lsn) -> Result<Option<Group>, OpenFault>
+    /// Puts the group of a number, one more than the last, into `group`. False is the end: a closed gate, or the last
+    /// place, which stays free. NotAStore is an open slot without such a group. Without a group, what `group` holds
+    /// then is no matter. It reads units ahead, which must be those of this file.
+    pub fn scan<D: Disk>(
+        &mut self,
+        disk: &mut D,
+        next: Lsn,
+        group: &mut Group,
+    ) -> Result<bool, OpenFault>
         requires before { self.old.scanned ≡ false }
         requires next { next ≡ self.old.head.number + self.old.used }
         requires small { next < 2 ^ 63 }
         requires whole { D.tells → length (D.content disk.old) ≡ file_length self.old.layout }
         requires ahead { D.tells → AreFrom (D.content disk.old)
             (slot_of self.old.layout self.old.head self.old.used) self.old.ahead }
-        ensures found { D.tells → IfOk result (λ o. IfSome o
-            (λ g. HoldsGroup self.old.layout
-            (log_unit self.old.layout self.old.head (D.content disk.old) self.old.used) next g)) }
-        ensures valid { IfOk result (λ o. IfSome o (λ g. IsLoggable self.old.layout g)) }
-        ensures more { IfOk result (λ o. IfSome o (λ g. self.old.used + 1 < self.old.layout.log)) }
-        ensures end { D.tells → IfOk result (λ o. IfNone o
-            (GroupsAre self.old.layout self.old.head (D.content disk.old) self.old.used [])) }
+        ensures found { D.tells → IfOk result (λ more. more ≡ true
+            → HoldsGroup self.old.layout
+            (log_unit self.old.layout self.old.head (D.content disk.old) self.old.used) next group.new) }
+        ensures valid { IfOk result (λ more. more ≡ true → IsLoggable self.old.layout group.new) }
+        ensures more { IfOk result (λ more. more ≡ true → self.old.used + 1 < self.old.layout.log) }
+        ensures end { D.tells → IfOk result (λ more. more ≡ false
+            → GroupsAre self.old.layout self.old.head (D.content disk.old) self.old.used []) }
         ensures faulty { D.tells → IsErrOf result OpenFault.NotAStore
             → IsFaultyGroup self.old.layout self.old.head (D.content disk.old) self.old.used }
         ensures no_memory { ¬ IsErrOf result OpenFault.NoMemory }
         ensures counted { IsCountedAs (D.faults disk.old) (D.faults disk.new) (err_is is_failed result) }
-        ensures one_more { IfOk result (λ o. IfSome o (λ g. self.new
-            ≡ record self.old { used = self.old.used + 1; ahead = self.new.ahead })) }
+        ensures one_more { IfOk result (λ more. more ≡ true → self.new
+            ≡ record self.old { used = self.old.used + 1; ahead = self.new.ahead }) }
         ensures ahead { D.tells → AreFrom (D.content disk.old)
             (slot_of self.new.layout self.new.head self.new.used) self.new.ahead }
-        ensures ended { IfOk result (λ o. IfNone o (self.new ≡ record self.old { scanned = true; ahead = [] })) }
+        ensures ended { IfOk result (λ more. more ≡ false
+            → self.new ≡ record self.old { scanned = true; ahead = [] }) }
         ensures stays { OnErr result (self.new ≡ self.old) }
         ensures same { D.tells → Rests D.Disk disk.old disk.new }
         ensures untouched { self.old.used + 1 ≡ self.old.layout.log → disk.new ≡ disk.old }
@@ -133,7 +140,7 @@ impl Log {
         if self.used + 1 == self.layout.log {
             self.scanned = true;
             self.ahead = 0;
-            return Ok(None);
+            return Ok(false);
         }
         let slot = slot_behind(&self.layout, self.head, self.used);
         let ahead = read_ahead(
@@ -145,14 +152,19 @@ impl Log {
             self.ahead,
         )?;
         let at = UNIT * (FLUSH_SLOTS - ahead as usize);
-        let Some(group) = group_of(&self.layout, &self.buffer[at..at + UNIT], next)? else {
+        if !group_of(
+            &self.layout,
+            &self.buffer[at..at + UNIT],
+            next,
+            group,
+        )? {
             self.scanned = true;
             self.ahead = 0;
-            return Ok(None);
-        };
+            return Ok(false);
+        }
         self.ahead = ahead - 1;
         self.used += 1;
-        Ok(Some(group))
+        Ok(true)
     }
 
     /// How many slots hold groups that were scanned or flushed.

@@ -44,12 +44,13 @@ pub fn fresh_scan<D: Disk>(
 }
 
 /// Keeps the group behind those that were read, if there is one, and says whether there was. NotAStore where the slot
-/// is open and holds no such group.
+/// is open and holds no such group. The group that is given takes what is read, so that none is made for each.
 fn scan_one<D: Disk>(
     scan: &mut Scan,
     disk: &mut D,
     layout: &Layout,
     head: Head,
+    group: &mut Group,
 ) -> Result<bool, OpenFault>
     requires so_far { HasScanned D.tells layout.now head (D.content disk.old) scan.old.log scan.old.groups.items
         (vec_capacity scan.old.groups) }
@@ -67,10 +68,10 @@ fn scan_one<D: Disk>(
     ensures same { D.tells → Rests D.Disk disk.old disk.new }
 {
     let next = head.number + u64::from(scan.log.used());
-    let Some(group) = scan.log.scan(disk, next)? else {
+    if !scan.log.scan(disk, next, group)? {
         return Ok(false);
-    };
-    scan.groups.push_reserved(group);
+    }
+    scan.groups.push_reserved(group.copied());
     Ok(true)
 }
 
@@ -93,8 +94,9 @@ pub fn scan_all<D: Disk>(
     ensures counted { IsCountedAs (D.faults disk.old) (D.faults disk.new) (err_is is_failed result) }
     ensures same { D.tells → Rests D.Disk disk.old disk.new }
 {
+    let mut group = Group::new();
     for _ in 0..layout.log {
-        if !scan_one(scan, disk, layout, head)? {
+        if !scan_one(scan, disk, layout, head, &mut group)? {
             return Ok(());
         }
     }

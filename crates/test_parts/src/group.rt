@@ -1,6 +1,6 @@
 //! Groups by their bytes, and bytes that are those of no group.
 use crate::patches::are_patches;
-use rb_base::BlockNo;
+use rb_base::{BlockNo, Group};
 use rb_group::{decode, encode};
 
 /// One patch of block 0: the byte 1 at 416.
@@ -8,10 +8,8 @@ const ONE: &[u8; 11] = b"\0\x01\0\0\0\0\x01\xa0\0\x01\x01";
 
 /// Whether these bytes are those of a group of these patches, and are written of it again, and nothing behind them.
 fn spells(bytes: &[u8], patches: &[(BlockNo, usize, &[u8])]) -> bool {
-    let Some(group) = decode(bytes) else {
-        return false;
-    };
-    if group.patches() == 0 {
+    let mut group = Group::new();
+    if !decode(bytes, &mut group) || group.patches() == 0 {
         return false;
     }
     let mut again = [9; 2000];
@@ -20,6 +18,11 @@ fn spells(bytes: &[u8], patches: &[(BlockNo, usize, &[u8])]) -> bool {
         && length == bytes.len()
         && again.starts_with(bytes)
         && again.get(length).copied() == Some(9)
+}
+
+/// Whether these bytes are those of a group.
+fn is_group(bytes: &[u8]) -> bool {
+    decode(bytes, &mut Group::new())
 }
 
 #[test]
@@ -49,7 +52,7 @@ fn groups_and_others(rt: HostRuntime) {
         (b"\0\x01\0\0\0\0\x01\xa0\0\x01", false),
     ];
     for (bytes, expected) in rows {
-        assert!(rt; decode(bytes).is_some() == expected, "{bytes:?}");
+        assert!(rt; is_group(bytes) == expected, "{bytes:?}");
     }
 }
 
@@ -61,9 +64,9 @@ fn longest_patch(rt: HostRuntime) {
     long[7] = 32;
     long[8] = 0x07;
     long[9] = 0xc6;
-    assert!(rt; decode(&long[..2000]).is_some());
+    assert!(rt; is_group(&long[..2000]));
     long[9] = 0xc7;
-    assert!(rt; decode(&long).is_none());
+    assert!(rt; !is_group(&long));
 }
 
 /// The bytes of 41 patches, each of one byte, after a count.
@@ -80,6 +83,6 @@ fn small_patches(count: u8) -> [u8; 371] {
 
 #[test]
 fn most_patches(rt: HostRuntime) {
-    assert!(rt; decode(&small_patches(40)[..362]).is_some());
-    assert!(rt; decode(&small_patches(41)).is_none());
+    assert!(rt; is_group(&small_patches(40)[..362]));
+    assert!(rt; !is_group(&small_patches(41)));
 }

@@ -148,10 +148,11 @@ fn log_from(rt: &HostRuntime, disk: &mut Calls, head: Head) -> Option<Log>
     let Ok(mut log) = Log::open(rt.alloc(), disk, &layout, head) else {
         return None;
     };
+    let mut group = Group::new();
     for place in 0..64u64 {
-        match log.scan(disk, head.number + place) {
-            Ok(Some(_)) => (),
-            Ok(None) => return Some(log),
+        match log.scan(disk, head.number + place, &mut group) {
+            Ok(true) => (),
+            Ok(false) => return Some(log),
             Err(_) => return None,
         }
     }

@@ -8,7 +8,7 @@ use Rattle.rb_group.proofs.read.decode.Goals.{then-bytes-lt2-via-then-bytes-lt2,
 use Rattle.rb_group.proofs.read.decode.Goals as goal
 
 pub returns-then-bytes-lt2-clause-none : goal.returns-then-bytes-lt2-clause-none
-returns-then-bytes-lt2-clause-none c = λ patches s.
+returns-then-bytes-lt2-clause-none c _ = λ patches s.
     let l = spelled_length c.args.bytes.now patches s in
     elim c.then-bytes-lt2.branch [
       | then-bytes-lt2-via-then-bytes-lt2 w ↦ absurd (omega (arith, l.0, w.if-bytes-lt2.true))
@@ -16,7 +16,7 @@ returns-then-bytes-lt2-clause-none c = λ patches s.
     ]
 
 pub returns-in_default-clause-none : goal.returns-in_default-clause-none
-returns-in_default-clause-none c =
+returns-in_default-clause-none c _ =
     read_stuck c.u16_at-count.result c.args.bytes.now c.loop.counter c.loop.group c.loop.rest.now (omega arith) c.loop-test.true c.loop.invariant c.in_default.ensures.none
 
 pub push-requires-clause-room : goal.push-requires-clause-room
@@ -26,15 +26,15 @@ push-requires-clause-room c =
     let f = read_fits c.u16_at-count.result c.args.bytes.now (c.loop.counter + 1) (c.loop.group ++ p ∷ []) c.in-Some.behind.now h in
     omega (arith, f, length_pushed c.loop.group p, c.if-bytes-gt-GROUP_BYTES.false)
 
-pub returns-then-is_empty-clause-found : goal.returns-then-is_empty-clause-found
-returns-then-is_empty-clause-found c =
+pub returns-clause-found : goal.returns-clause-found
+returns-clause-found c is =
     let count = c.u16_at-count.result in
     let h = read_at_end count c.args.bytes.now c.loop.counter c.loop.group c.loop.rest.now c.loop.auto.counter-end c.loop-test.false c.loop.invariant in
-    read_found count c.args.bytes.now c.loop.group c.loop.rest.now (omega arith) (omega arith) (omega arith) h (nil_from_length c.loop.rest.now (eqb-true _ 0 (sym c.is_empty.ensures ∙ c.if-is_empty.true)))
+    read_found count c.args.bytes.now c.loop.group c.loop.rest.now (omega arith) (omega arith) (omega arith) h (nil_from_length c.loop.rest.now (eqb-true _ 0 (sym c.is_empty.ensures ∙ is)))
 
-pub returns-else-is_empty-clause-none : goal.returns-else-is_empty-clause-none
-returns-else-is_empty-clause-none c = λ patches s.
+pub returns-clause-none : goal.returns-clause-none
+returns-clause-none c is = λ patches s.
     let count = c.u16_at-count.result in
     let h = read_at_end count c.args.bytes.now c.loop.counter c.loop.group c.loop.rest.now c.loop.auto.counter-end c.loop-test.false c.loop.invariant in
     let ended = read_ended count c.args.bytes.now c.loop.group c.loop.rest.now (omega arith) h patches s in
-    eqb-false _ 0 (sym c.is_empty.ensures ∙ c.if-is_empty.false) (ap length ended)
+    eqb-false _ 0 (sym c.is_empty.ensures ∙ is) (ap length ended)
