@@ -152,12 +152,7 @@ impl Log {
             self.ahead,
         )?;
         let at = UNIT * (FLUSH_SLOTS - ahead as usize);
-        if !group_of(
-            &self.layout,
-            &self.buffer[at..at + UNIT],
-            next,
-            group,
-        )? {
+        if !group_of(&self.layout, &self.buffer[at..at + UNIT], next, group)? {
             self.scanned = true;
             self.ahead = 0;
             return Ok(false);

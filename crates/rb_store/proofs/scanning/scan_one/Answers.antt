@@ -1,4 +1,4 @@
-use Rattle.std.proofs.Common.{◌≡◌, ◌+◌, ◌<◌, ◌++◌, ◌∷◌, ℕ, List, [], length, arith, subst, sym, ap, ◌∙◌, vec_capacity}
+use Rattle.std.proofs.Common.{◌≡◌, ◌+◌, ◌<◌, ◌++◌, ◌∷◌, ℕ, List, [], length, arith, subst, sym, vec_capacity}
 use Rattle.rb_base.specs.Groups.{Patch}
 use Rattle.std.proofs.lemmas.Result.{err_from_is_err_and}
 use Rattle.rb_log.specs.GroupSlots.{LogState, GroupsAre, HoldsGroup, IsFaultyGroup, IsLoggable}
