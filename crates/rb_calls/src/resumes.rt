@@ -62,6 +62,9 @@ pub fn resume_ready<T: Store, L: Listener>(
 {
     // A write that was tried again leaves fewer sessions ready.
     for _turn in 0..MOST_READY {
+        if !engine.has_ready() {
+            return Ok(());
+        }
         let Some((s, outcome)) = engine.resume() else {
             return Ok(());
         };

@@ -1,5 +1,6 @@
 //! A write of a session that had to wait, tried again. `Engine::resume` calls it.
 ghost use Rattle.std.specs.Prelude.{◌≤◌, ◌≡◌, ◌<◌, ℕ, false, None, Some, Err, IfSome};
+ghost use Rattle.std.specs.Option.{is_some};
 ghost use Rattle.rb_base.specs.Counts.{IsCountedAs};
 ghost use Rattle.rb_engine.specs.Does.{IsInStep, Resumes, SameStore, Stands, resume_fault};
 ghost use Rattle.rb_engine.specs.Lateness.{ResumeNeedsLost};
@@ -65,6 +66,13 @@ pub fn do_resume<T: Store>(
 }
 
 impl<T: Store> Engine<T> {
+    /// Whether a session is ready to try its write again.
+    pub fn has_ready(&self) -> bool
+        ensures { result ≡ is_some (first_ready self.now.memory.waits) }
+    {
+        self.memory.waits.ready().is_some()
+    }
+
     /// Tries the write of the ready session that came first once more, and tells whose it is and what it answers. Each
     /// session that waited for one whose transaction has ended is ready. The session leaves the queue; where it has to
     /// wait again, it does so behind all others. None where no session is ready, and of a stopped engine.

@@ -1,4 +1,4 @@
-use Rattle.std.proofs.Common.{◌≡◌, ◌+◌, ◌∙◌, ℕ, [], false, None, refl, sym, ap, subst, arith}
+use Rattle.std.proofs.Common.{◌≡◌, ◌+◌, ◌∙◌, ℕ, [], true, false, Option, None, Some, is_some, refl, sym, ap, subst, arith}
 use Rattle.rb_base.specs.Counts.{Rose}
 use Rattle.rb_calls.proofs.CallLemmas.{did_resume, did_still, fewer_on, none_some, tried_old}
 use Rattle.rb_calls.proofs.ResumeLemmas.{few_more, few_within, resumed_all, resumed_fails, resumed_more, resumed_none}
@@ -34,6 +34,24 @@ loop-turn-init g c = record {
   same = record { shape = refl; slots = refl };
   disk = refl;
 }
+
+no_some : (o : Option ℕ) → is_some o ≡ false → o ≡ None
+no_some None none = refl
+no_some (Some s) none = cc
+
+pub returns-then-not-has_ready-clause-did : goal.returns-then-not-has_ready-clause-did
+returns-then-not-has_ready-clause-did g c = λ m is going.
+    let d = c.loop-turn.invariant.so_far m is going in
+    let none : first_ready c.loop-turn.engine.memory.waits ≡ None = no_some _ (sym c.has_ready.ensures ∙ c.if-not-has_ready.true) in
+    record {
+      now = d.now;
+      reached = d.reached;
+      passed = d.passed;
+      ran = resumed_all g.L.Listener.heard m d.now _ _ _ d.ran (sym (ap first_ready (d.reached.engine.knows.queue d.ran.going).waits) ∙ none);
+    }
+
+pub returns-then-not-has_ready-clause-few : goal.returns-then-not-has_ready-clause-few
+returns-then-not-has_ready-clause-few g c = few_within g.L.Listener.heard c.loop-turn._turn 16 _ _ (omega arith) c.loop-turn.invariant.few
 
 pub returns-in_default-clause-did : goal.returns-in_default-clause-did
 returns-in_default-clause-did g c = λ m is going.
