@@ -21,6 +21,7 @@ use crate::status::Status;
 use rb_base::{OpenFault, Store};
 use rb_disk::Disk;
 use rb_engine::Engine;
+use rb_fill::zero_bytes;
 use rb_lines::{LineRunner, LinesEnd, StepFault, run_lines};
 use rb_model::Refusal;
 use rb_store::LogStore;
@@ -241,7 +242,7 @@ pub fn run_script<S: Source, K: Sink, D: Disk>(
     ensures disk { IsCountedBeside (D.faults disk) (D.faults result.1) (by_disk result.0) (by_sink result.0) }
     ensures sink { IsCountedAs (K.faults sink.old) (K.faults sink.new) (by_sink result.0) }
 {
-    let Ok(mut buffer) = vec![in alloc; 0; SCRIPT_BYTES] else {
+    let Ok(mut buffer) = zero_bytes(alloc, SCRIPT_BYTES) else {
         return (Status::NoMemory, disk);
     };
     match open_engine(alloc, disk, frames) {
