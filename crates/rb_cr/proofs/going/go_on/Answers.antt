@@ -1,4 +1,4 @@
-use Rattle.std.proofs.Common.{◌-◌, ◌^◌, Bool, Result, Ok, Err, refl, sym, subst, true}
+use Rattle.std.proofs.Common.{◌-◌, ◌^◌, Bool, Result, Ok, Err, refl, sym, subst}
 use Rattle.rb_cr.specs.Calls.{Said}
 use Rattle.rb_cr.specs.Clauses.{Rewinds}
 use Rattle.rb_cr.specs.Going.{WentOn}

@@ -1,6 +1,6 @@
-use Rattle.std.proofs.Common.{◌≡◌, ℕ, List, length, Option, Some, None, IfSome, subst}
+use Rattle.std.proofs.Common.{ℕ, List, Option, Some, None, IfSome}
 use Rattle.rb_cell.specs.declared.cell.Cell.{Cell}
-use Rattle.rb_cr.specs.Rows.{IsWanted, NoneLesser, ShowsWanted}
+use Rattle.rb_cr.specs.Rows.{IsWanted, ShowsWanted}
 use Rattle.rb_cr.specs.declared.plain.KeyCell.{KeyCell}
 use Rattle.rb_cr.proofs.plain.least_at.Goals as goal
 

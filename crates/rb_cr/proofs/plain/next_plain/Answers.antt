@@ -1,10 +1,9 @@
-use Rattle.std.proofs.Common.{◌≡◌, ◌∙◌, ◌<◌, ◌≤◌, ℕ, List, Option, Some, None, get_or, length, refl, sym, ap, subst, arith}
+use Rattle.std.proofs.Common.{◌≡◌, ◌∙◌, ◌<◌, ◌≤◌, ℕ, List, Option, Some, None, length, refl, sym, ap, subst, arith}
 use Rattle.rb_cell.specs.declared.cell.Cell.{Cell}
 use Rattle.rb_cr.specs.Rows.{IsWanted, NoneLesser, cell_rows}
 use Rattle.rb_cr.specs.declared.plain.KeyCell.{KeyCell}
 use Rattle.rb_cr.proofs.Overlays.{CellWith, cell_with}
 use Rattle.rb_cr.proofs.Shown.{first_shows}
-use Rattle.rb_heap.specs.Homes.{empty_cell}
 use Rattle.rb_cr.proofs.plain.next_plain.Goals as goal
 
 -- a cell was found whose key is up to that of a row that is wanted

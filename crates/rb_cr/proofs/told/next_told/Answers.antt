@@ -1,7 +1,6 @@
 use Rattle.std.proofs.Common.{◌≡◌, ◌∙◌, ℕ, Bool, List, Option, Result, true, false, Some, Ok, sym, ap, subst}
 use Rattle.rb_base.specs.declared.faults.Failed.{Failed}
 use Rattle.rb_base.specs.Blocks.{block_of}
-use Rattle.rb_base.specs.Logs.{load_logs}
 use Rattle.rb_cr.specs.Builds.{IsHomeRead}
 use Rattle.rb_cr.specs.Clauses.{answer_to}
 use Rattle.rb_cr.specs.Copies.{IsQuiet}
