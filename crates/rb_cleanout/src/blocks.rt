@@ -86,12 +86,13 @@ pub fn plan_clean<S: Store>(
         → PlansClean (look_of (S.shape_of store.old) (S.blocks store.old)) no workspace.new.group
         (block_of (S.blocks store.old) no)) }
     ensures none { S.tells → IfOk result (λ planned. planned ≡ false
-        → (cleaned_home (look_of (S.shape_of store.old) (S.blocks store.old)) (home_of (block_of (S.blocks store.old) no))
+        → (cleaned_home (look_of (S.shape_of store.old) (S.blocks store.old))
+        (home_of (block_of (S.blocks store.old) no))
         ≡ home_of (block_of (S.blocks store.old) no))) }
     ensures whole { S.tells → OnOk result (AreBlocks (S.shape_of store.old) (S.blocks store.old)) }
 {
     store.load(no)?;
-    // A fetch asks this for each row, so nothing is copied where nothing is Open.
+    // A fetch asks this for each block that doesn't tell its rows, so nothing is copied where nothing is Open.
     if !has_open(store.block()) {
         return Ok(false);
     }
@@ -102,8 +103,8 @@ pub fn plan_clean<S: Store>(
 }
 
 /// Cleans block `no` of the store, which is one of rows, by one group of patches, or by none where there is nothing to
-/// clean. What the workspace has afterwards is open. `Failed` only where a call of the store failed. (That a block is cleaned by a
-/// later visitor and not by the commit is the delayed cleanout of Oracle7.)
+/// clean. What the workspace has afterwards is open. `Failed` only where a call of the store failed. (That a block is
+/// cleaned by a later visitor and not by the commit is the delayed cleanout of Oracle7.)
 pub fn clean<S: Store>(store: &mut S, no: BlockNo, workspace: &mut Workspace) -> Result<(), Failed>
     requires going { S.failed store.old ≡ false }
     requires there { no < table_blocks (S.shape_of store.old) }

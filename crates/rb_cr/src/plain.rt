@@ -1,6 +1,7 @@
 //! The rows of a home as its cells stand, in the order of their keys. `next_told` and `next_at` read them so where no
 //! change of the block is above the snapshot, and `next_at` from a home that is kept at the snapshot.
-ghost use Rattle.std.specs.Prelude.{◌≡◌, ◌<◌, ◌≤◌, ◌+◌, ℕ, List, true, false, get_or, length, None, IfSome};
+ghost use Rattle.std.specs.Prelude.{◌≡◌, ◌<◌, ◌≤◌, ◌+◌, ℕ, List, true, false};
+ghost use Rattle.std.specs.Prelude.{get_or, length, None, IfSome};
 ghost use Rattle.rb_base.specs.declared.sizes.TheConstants.{UNIT};
 ghost use Rattle.rb_cr.specs.Rows.{IsNext, IsWanted, NoneLesser, ShowsWanted, cell_rows};
 ghost use Rattle.rb_cell.specs.Cells.{cell_at};

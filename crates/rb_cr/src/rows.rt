@@ -40,7 +40,8 @@ impl Wanted {
 
     /// The key from which on up to the greatest one all are asked for. None where none is.
     pub(crate) fn from(self) -> Option<u64>
-        ensures within { IfSome result (λ from. (key : ℕ) → IsWanted self.after self.lo self.hi key → from ≤ key) }
+        ensures within { IfSome result (λ from. (key : ℕ) → IsWanted self.after self.lo self.hi key
+            → from ≤ key) }
         ensures all { IfSome result (λ from. (key : ℕ) → from ≤ key → key ≤ self.hi
             → IsWanted self.after self.lo self.hi key) }
         ensures none { IfNone result ((key : ℕ) → IsWanted self.after self.lo self.hi key → ⊥) }

@@ -1,5 +1,5 @@
-//! The next row of a block that tells by itself that a snapshot sees each of its changes. Whoever reads rows in the order
-//! of their keys asks for it before anything is cleaned or rebuilt.
+//! The next row of a block that tells by itself that a snapshot sees each of its changes. Whoever reads rows in the
+//! order of their keys asks for it before anything is cleaned or rebuilt.
 ghost use Rattle.std.specs.Prelude.{[], ◌≡◌, ◌<◌, ℕ, true, false, not, None, Some, Ok, IfErr, IfOk, IfSome};
 ghost use Rattle.std.specs.Result.{is_err};
 ghost use Rattle.rb_base.specs.Blocks.{block_of, shape_blocks};
@@ -22,8 +22,9 @@ use rb_model::Row;
 
 /// Where each entry of a block tells by itself that it isn't above a snapshot, puts the row of the least key that is
 /// asked for, as the block showed it at the snapshot, into `row`: true where it showed one, and false where it showed
-/// none. None where the block doesn't tell, and nothing is known of its rows. One that tells has nothing to clean. Where
-/// no row is given the row stays as it was. `Failed` only where the block can't be loaded. The store is given no group.
+/// none. None where the block doesn't tell, and nothing is known of its rows. One that tells has nothing to clean.
+/// Where no row is given the row stays as it was. `Failed` only where the block can't be loaded. The store is given no
+/// group.
 pub fn next_told<S: Store>(
     store: &mut S,
     block: BlockNo,

@@ -188,7 +188,7 @@ fn any_told_hidden(block: &[u8], scn: Scn) -> bool
 
 /// Whether no entry of a block's home is above a snapshot. Its entries alone are read for that, and how their
 /// transactions stand where one is Open and no other is told to be above. Only then are they decoded into the scratch:
-/// a scan asks this for each row.
+/// a scan asks this for each row of a block that has an Open entry, or one above.
 pub(crate) fn changes_visible<S: Store>(
     store: &mut S,
     block: BlockNo,

@@ -78,7 +78,8 @@ fn other_holder<T: Store>(
 
 /// Inserts, updates or deletes the row of a key, or holds it as it is. Where another session holds the key, this one
 /// waits for it. It may be refused, and then nothing is changed. The tests that come before the write only load blocks,
-/// and leave memory as it is, unless a call of the store failed. What `scratch` and `workspace` hold afterwards is open.
+/// and leave memory as it is, unless a call of the store failed. What `scratch` and `workspace` hold afterwards
+/// is open.
 pub fn do_write<T: Store>(
     memory: &mut Memory,
     scratch: &mut Scratch,

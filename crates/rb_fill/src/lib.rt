@@ -1,5 +1,4 @@
-//! Buffers of zeros. The log, the twin area, the cache and the shell take theirs here, all at an
-//! opening.
+//! Buffers of zeros. The log, the twin area, the cache and the shell take theirs here, all at an opening.
 #![tactic(auto)]
 
 mod fill;

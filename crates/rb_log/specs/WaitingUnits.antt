@@ -1,7 +1,7 @@
 -- The groups that wait in memory for a flush. Of each there are as many bytes as a slot has: its unit behind the gate,
 -- which is its body, and then the gate of the slot after it.
-use Rattle.std.specs.Prelude.{◌≡◌, ℕ, ◌+◌, ◌-◌, ◌^◌, ◌<◌, ◌≤◌, List, length, take, drop, map, get_or}
-use Rattle.std.specs.Prelude.{[], Bool, true, false}
+use Rattle.std.specs.Prelude.{◌≡◌, ℕ, ◌+◌, ◌-◌, ◌^◌, ◌<◌, ◌≤◌, List, length, take}
+use Rattle.std.specs.Prelude.{drop, map, get_or, [], Bool, true, false}
 use Rattle.std.specs.List.{AllByRecursion}
 use Rattle.rb_base.specs.Groups.{Patch}
 use Rattle.rb_base.specs.declared.sizes.TheConstants.{UNIT}

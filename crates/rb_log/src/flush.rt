@@ -171,7 +171,8 @@ pub(crate) fn write_groups<D: Disk>(
     ensures written { D.tells → OnOk result ((before : List (List Patch)) → length before ≡ used
         → GroupsAre layout.now head (D.content disk.old) 0 before
         → GroupsAre layout.now head (D.content disk.new) 0 (before ++ groups_in (take count units.old))) }
-    ensures units { D.tells → OnOk result ((k : ℕ) (d : List Patch) → k < length (groups_in (take count units.old))
+    ensures units { D.tells → OnOk result ((k : ℕ) (d : List Patch)
+        → k < length (groups_in (take count units.old))
         → log_unit layout.now head (D.content disk.new) (used + k)
         ≡ group_unit 1 (head.number + (used + k)) (slice_index_or (groups_in (take count units.old)) k d)) }
     ensures closed { D.tells → OnOk result (0 < length (groups_in (take count units.old))

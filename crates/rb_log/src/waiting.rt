@@ -1,7 +1,7 @@
 //! The groups that wait for a flush, in units as they are written. `Log` puts them there, and its flush sets the gates
 //! between them.
-ghost use Rattle.std.specs.Prelude.{◌≡◌, ◌+◌, ◌-◌, ◌<◌, ◌≤◌, [], ◌∷◌, ◌++◌, ℕ, drop, length, take, min};
-ghost use Rattle.std.specs.Prelude.{slice_index, slice_index_or, vec_capacity};
+ghost use Rattle.std.specs.Prelude.{◌≡◌, ◌+◌, ◌-◌, ◌<◌, ◌≤◌, [], ◌∷◌, ◌++◌, ℕ};
+ghost use Rattle.std.specs.Prelude.{drop, length, take, min, slice_index, slice_index_or, vec_capacity};
 ghost use Rattle.rb_base.specs.Groups.{IsGroup};
 ghost use Rattle.rb_log.specs.GroupSlots.{group_unit};
 ghost use Rattle.rb_log.specs.WaitingUnits.{body_of, bodies_of};

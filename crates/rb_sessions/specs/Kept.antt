@@ -1,5 +1,6 @@
 -- What a contract sees of the table of sessions, and how its calls change it.
-use Rattle.std.specs.Prelude.{◌≡◌, ℕ, zero, suc, true, ◌+◌, ◌-◌, ◌^◌, false, not, ◌&&◌, nat_lt, min, cond}
+use Rattle.std.specs.Prelude.{◌≡◌, ℕ, zero, suc, true, ◌+◌, ◌-◌, ◌^◌, false, not}
+use Rattle.std.specs.Prelude.{◌&&◌, nat_lt, min, cond}
 use Rattle.std.specs.Prelude.{List, [], ◌∷◌, ◌++◌, map, filter, get_or, set, Option, None, Some}
 use Rattle.std.specs.Option.{option_map}
 use Rattle.std.specs.Str.{bytes_eq}

@@ -68,8 +68,8 @@ pub fn commit_step<S: Store>(
     store.apply(group)
 }
 
-/// Ends the slot of the transaction by one group. What the workspace has afterwards is open. Nothing is done where the transaction
-/// doesn't run or has a live change. `Failed` only where a call of the store failed.
+/// Ends the slot of the transaction by one group. What the workspace has afterwards is open. Nothing is done where the
+/// transaction doesn't run or has a live change. `Failed` only where a call of the store failed.
 pub fn end_step<S: Store>(store: &mut S, xid: Xid, workspace: &mut Workspace) -> Result<(), Failed>
     requires going { S.failed store.old ≡ false }
     requires there { xid.seg < (S.shape_of store.old).segments }

@@ -18,10 +18,10 @@ ghost use Rattle.rb_undo.specs.Backs.{CanBack};
 use rb_base::{Failed, SLOTS, Store, Workspace, Xid};
 use rb_undo::back;
 
-/// Puts back the newest live change of the transaction, by one group. What the workspace has afterwards is open. Nothing
-/// is done where the transaction doesn't run or has no live change, and in a damaged file, where no record of the change is
-/// found. `Failed` only where a call of the store failed. It is `back`, and what it adds is its contract, which speaks
-/// of the machine's state: the group makes the session's changes those in front of the newest.
+/// Puts back the newest live change of the transaction, by one group. What the workspace has afterwards is open.
+/// Nothing is done where the transaction doesn't run or has no live change, and in a damaged file, where no record of
+/// the change is found. `Failed` only where a call of the store failed. It is `back`, and what it adds is its contract,
+/// which speaks of the machine's state: the group makes the session's changes those in front of the newest.
 pub fn back_step<S: Store>(store: &mut S, xid: Xid, workspace: &mut Workspace) -> Result<(), Failed>
     requires going { S.failed store.old ≡ false }
     requires there { xid.seg < (S.shape_of store.old).segments }

@@ -17,8 +17,8 @@ use rb_base::{SLOTS, Store, WORN, Workspace, Xid};
 use rb_write::{Ask, AttemptFault, attempt};
 
 /// Writes a key of a table for a session, whose transaction has the id that is asked with, if it has a table slot. The
-/// answer is the transaction's id, or why nothing is written. `Failed` only where a call of the store failed. What
-/// the workspace has afterwards is open. No other session holds the key, and no commit above the snapshot of a serializable
+/// answer is the transaction's id, or why nothing is written. `Failed` only where a call of the store failed. What the
+/// workspace has afterwards is open. No other session holds the key, and no commit above the snapshot of a serializable
 /// transaction has changed the row. It is `attempt`, and what it adds is its contract, which speaks of the machine's
 /// state: a write that is done is the machine's next state, and a refusal its first test that applies.
 pub fn write_step<S: Store>(

@@ -41,8 +41,8 @@ fn prepare<S: Store>(
     ensures within { OnOk result (AreWithin (S.shape_of store.old) workspace.new.group) }
     ensures made { S.tells → AreYoung (S.shape_of store.old) (S.blocks store.old)
         → IfOk result (IsMade (S.shape_of store.old) (S.blocks store.old)
-        (after_group (logged_of (S.shape_of store.old) (S.blocks store.old) + 1) workspace.new.group (S.blocks store.old))
-        ask.now) }
+        (after_group (logged_of (S.shape_of store.old) (S.blocks store.old) + 1) workspace.new.group
+        (S.blocks store.old)) ask.now) }
     ensures takes { S.tells → AreYoung (S.shape_of store.old) (S.blocks store.old)
         → OnOk result (TakesWrite (home_for (S.shape_of store.old) (S.blocks store.old) ask.now)
         (adds_row ask.now.op) ask.now.key) }
@@ -77,8 +77,8 @@ fn prepare<S: Store>(
 /// the segment with the fewest that run. Its block is cleaned; the change takes a slot entry and a cell of it, and what
 /// they were is kept in an undo record. The tests come in this order: whether the key has a row, a cell for an insert,
 /// an entry, room for the record, and the log's numbers. `Failed` only where a call of the store failed. What the
-/// workspace has afterwards is open. In a damaged file, where the transaction doesn't run or no table slot is idle, it is
-/// `RollbackFull`. The key is no other transaction's. (Oracle7 Server Concepts, *Rollback Segments*.)
+/// workspace has afterwards is open. In a damaged file, where the transaction doesn't run or no table slot is idle, it
+/// is `RollbackFull`. The key is no other transaction's. (Oracle7 Server Concepts, *Rollback Segments*.)
 pub fn attempt<S: Store>(
     store: &mut S,
     ask: &Ask<'_>,
