@@ -1,6 +1,7 @@
 -- What an opening has scanned, one group after another, up to the end of the log.
-use Rattle.std.proofs.Common.{◌≡◌, ℕ, ◌+◌, ◌<◌, false, true, List, [], ◌∷◌, ◌++◌, arith, ap, ◌∙◌}
-use Rattle.std.proofs.lemmas.List.{length-append}
+use Rattle.std.proofs.Common.{◌≡◌, ℕ, ◌+◌, ◌<◌, false, true, List, [], length, ◌∷◌, ◌++◌, arith, take, set, ap, sym, ◌∙◌}
+use Rattle.std.proofs.lemmas.List.{length-append, take_at}
+use Rattle.std.proofs.Math.Seq.{set-append_seam}
 use Rattle.rb_base.specs.Groups.{Patch}
 use Rattle.rb_base.proofs.Each.{all_push}
 use Rattle.rb_layout.specs.declared.layout.Head.{Head}
@@ -36,3 +37,10 @@ scan_end told l head file old new groups room h log ended = record {
   valid = h.valid;
   ends = λ t. begins_end_group l head file 0 old.used groups (omega (arith, ap (λ (x : LogState). x.used) h.log_is)) (h.begins t) (ended t);
 }
+
+-- a group that is read where one was put at the end, and that taken away again
+pub put_last : (old pushed : List (List Patch)) (place : ℕ) (empty group : List Patch) → pushed ≡ old ++ empty ∷ [] → place ≡ length old → set pushed place group ≡ old ++ group ∷ []
+put_last old pushed place empty group is at = ap (λ (gs : List (List Patch)). set gs place group) is ∙ ap (λ (n : ℕ). set (old ++ empty ∷ []) n group) at ∙ set-append_seam old empty [] group
+
+pub dropped_last : (old pushed : List (List Patch)) (place : ℕ) (empty group : List Patch) → pushed ≡ old ++ empty ∷ [] → place ≡ length old → take place (set pushed place group) ≡ old
+dropped_last old pushed place empty group is at = ap (take place) (put_last old pushed place empty group is at) ∙ take_at old (group ∷ []) place (sym at)

@@ -44,13 +44,12 @@ pub fn fresh_scan<D: Disk>(
 }
 
 /// Keeps the group behind those that were read, if there is one, and says whether there was. NotAStore where the slot
-/// is open and holds no such group. The group that is given takes what is read, so that none is made for each.
+/// is open and holds no such group.
 fn scan_one<D: Disk>(
     scan: &mut Scan,
     disk: &mut D,
     layout: &Layout,
     head: Head,
-    group: &mut Group,
 ) -> Result<bool, OpenFault>
     requires so_far { HasScanned D.tells layout.now head (D.content disk.old) scan.old.log scan.old.groups.items
         (vec_capacity scan.old.groups) }
@@ -68,10 +67,13 @@ fn scan_one<D: Disk>(
     ensures same { D.tells → Rests D.Disk disk.old disk.new }
 {
     let next = head.number + u64::from(scan.log.used());
-    if !scan.log.scan(disk, next, group)? {
+    let place = scan.groups.len();
+    // The group is filled where it stays. One of 2,480 bytes takes longer to move than to read.
+    scan.groups.push_reserved(Group::new());
+    if !scan.log.scan(disk, next, &mut scan.groups[place])? {
+        scan.groups.truncate(place);
         return Ok(false);
     }
-    scan.groups.push_reserved(group.copied());
     Ok(true)
 }
 
@@ -94,9 +96,8 @@ pub fn scan_all<D: Disk>(
     ensures counted { IsCountedAs (D.faults disk.old) (D.faults disk.new) (err_is is_failed result) }
     ensures same { D.tells → Rests D.Disk disk.old disk.new }
 {
-    let mut group = Group::new();
     for _ in 0..layout.log {
-        if !scan_one(scan, disk, layout, head, &mut group)? {
+        if !scan_one(scan, disk, layout, head)? {
             return Ok(());
         }
     }

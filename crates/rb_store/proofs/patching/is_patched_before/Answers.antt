@@ -1,7 +1,6 @@
-use Rattle.std.proofs.Common.{◌≡◌, ◌<◌, length, get_or, take, sym, ◌∙◌, ap, arith, true, subst}
+use Rattle.std.proofs.Common.{◌≡◌, ◌<◌, get_or, take, sym, ◌∙◌, ap, arith}
 use Rattle.std.proofs.lemmas.List.{get_or-take, length-take}
 use Rattle.rb_base.specs.Groups.{Patch}
-use Rattle.law_redo.specs.Rolled.{has_block}
 use Rattle.rb_store.proofs.PatchLemmas.{has_at}
 use Rattle.rb_store.proofs.patching.is_patched_before.Goals as goal
 
