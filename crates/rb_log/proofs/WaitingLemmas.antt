@@ -18,7 +18,7 @@ use Rattle.rb_log.proofs.GroupUnits.{AreSideBySide, length-body, piece}
 pub as_many : (units : List (List ℕ)) → length (groups_in units) ≡ length units
 as_many units = length-map (bodies_of units) group_of_body ∙ length-map units body_of
 
-get_or-map : {X Y : Type 0} (f : X → Y) (xs : List X) (i : ℕ) (d : X) (e : Y) → i < length xs → get_or (map f xs) i e ≡ f (get_or xs i d)
+pub get_or-map : {X Y : Type 0} (f : X → Y) (xs : List X) (i : ℕ) (d : X) (e : Y) → i < length xs → get_or (map f xs) i e ≡ f (get_or xs i d)
 get_or-map f [] i d e lt = absurd (omega arith)
 get_or-map f (x ∷ xs) zero d e lt = refl
 get_or-map f (x ∷ xs) (suc i) d e lt = get_or-map f xs i d e (omega arith)

@@ -1,8 +1,9 @@
 -- The groups that wait in memory for a flush. Of each there are as many bytes as a slot has: its unit behind the gate,
 -- which is its body, and then the gate of the slot after it.
 use Rattle.std.specs.Prelude.{◌≡◌, ℕ, ◌+◌, ◌-◌, ◌^◌, ◌<◌, ◌≤◌, List, length, take}
-use Rattle.std.specs.Prelude.{drop, map, get_or, [], Bool, true, false}
+use Rattle.std.specs.Prelude.{drop, map, get_or, replicate, [], ◌∷◌, Bool, true, false}
 use Rattle.std.specs.List.{AllByRecursion}
+use Rattle.rb_base.specs.Fields.{part, number_at}
 use Rattle.rb_base.specs.Groups.{Patch}
 use Rattle.rb_base.specs.declared.sizes.TheConstants.{UNIT}
 use Rattle.rb_group.specs.Spelling.{group_in_front}
@@ -11,7 +12,7 @@ use Rattle.rb_layout.specs.declared.layout.Layout.{Layout}
 use Rattle.rb_log.specs.GroupSlots.{IsLoggable, group_unit}
 use Rattle.rb_log.specs.Slots.{slot_of}
 use Rattle.rb_log.specs.declared.sizes.TheConstants.{FLUSH_BYTES, FLUSH_SLOTS}
-use Rattle.rb_log.specs.declared.unit.TheConstants.{GROUP}
+use Rattle.rb_log.specs.declared.unit.TheConstants.{GROUP, LENGTH}
 
 -- the bytes without that gate
 abbrev pub body_of : List ℕ → List ℕ
@@ -35,10 +36,26 @@ abbrev pub AreSpelled : ℕ → List (List ℕ) → Type 0
 AreSpelled number bodies = (k : ℕ) (d : List Patch) → k < length bodies
     → get_or bodies k [] ≡ drop 1 (group_unit 0 (number + k) (get_or (groups_of bodies) k d))
 
+-- how many bytes the group of a body has, by the field that says so
+abbrev pub length_in : List ℕ → ℕ
+length_in body = number_at body (LENGTH - 1) 2
+
+-- A body that the next group may be written over: it has a group or zeros, and 0 in each byte that a group's unit
+-- doesn't name. So no more is to be cleared than a longer group leaves behind the next one.
+pub record IsSpare (body : List ℕ) : Type 0 where
+  pub within : length_in body ≤ UNIT - GROUP
+  pub first : take (LENGTH - 1) body ≡ 0 ∷ []
+  pub between : part body (LENGTH + 1) 4 ≡ replicate 4 0
+  pub behind : drop (GROUP - 1 + length_in body) body ≡ replicate (UNIT - GROUP - length_in body) 0
+
+-- each of these is one
+abbrev pub AreSpare : List (List ℕ) → Type 0
+AreSpare bodies = (k : ℕ) → k < length bodies → IsSpare (get_or bodies k [])
+
 -- What the log has in memory: room for as many units as there are slots, of which one stays free, and 32 to scan.
 -- Before the end is found the last of these are read ahead, up to the last slot of the file. No group's number is near
--- the end of its type.
-pub record IsLogMemory (l : Layout) (head : Head) (used count : ℕ) (bodies : List (List ℕ)) (scanned : Bool)
+-- the end of its type. `bodies` are those that wait, the first of `all`.
+pub record IsLogMemory (l : Layout) (head : Head) (used count : ℕ) (bodies all : List (List ℕ)) (scanned : Bool)
     (buffer : List ℕ) (ahead room : ℕ) : Type 0 where
   pub slot : head.slot < l.log
   pub small : head.number + (used + count) ≤ 2 ^ 63
@@ -47,6 +64,7 @@ pub record IsLogMemory (l : Layout) (head : Head) (used count : ℕ) (bodies : L
   pub counts : length bodies ≡ count
   pub each : AllByRecursion (IsLoggable l) (groups_of bodies)
   pub spelled : AreSpelled (head.number + used) bodies
+  pub spare : AreSpare all
   pub none : scanned ≡ false → count ≡ 0
   pub units : length buffer ≡ FLUSH_BYTES
   pub few : ahead ≤ FLUSH_SLOTS

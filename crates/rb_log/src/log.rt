@@ -64,7 +64,7 @@ impl Model for Log {
     } };
 
     ghost invariant = { λ a. IsLogMemory a.layout a.head a.used a.waiting (bodies_of (take a.waiting a.units.items))
-        a.scanned a.buffer.items a.ahead (vec_capacity a.units) };
+        (bodies_of a.units.items) a.scanned a.buffer.items a.ahead (vec_capacity a.units) };
 }
 
 impl Log {

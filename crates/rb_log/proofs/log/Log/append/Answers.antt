@@ -1,5 +1,5 @@
 use Rattle.std.proofs.Common.{◌≡◌, ◌+◌, ◌-◌, ◌*◌, ◌∙◌, true, ◌++◌, [], ◌∷◌, ℕ, List, length, take, drop, set, ap, sym, subst, arith}
-use Rattle.std.proofs.lemmas.List.{length-map, length-append}
+use Rattle.std.proofs.lemmas.List.{length-map, length-append, get_or_default}
 use Rattle.std.specs.List.{AllByRecursion}
 use Rattle.rb_base.specs.Groups.{Patch}
 use Rattle.rb_base.specs.Blocks.{AreWithin}
@@ -7,9 +7,10 @@ use Rattle.rb_base.specs.declared.sizes.TheConstants.{UNIT}
 use Rattle.rb_layout.specs.Regions.{shape_of}
 use Rattle.rb_base.proofs.Each.{all_push}
 use Rattle.rb_log.specs.GroupSlots.{IsLoggable, LogState, group_unit}
-use Rattle.rb_log.specs.WaitingUnits.{bodies_of, group_of_body, groups_of, AreSpelled}
+use Rattle.rb_log.specs.WaitingUnits.{body_of, bodies_of, group_of_body, groups_of, AreSpelled, IsSpare}
 use Rattle.rb_log.specs.declared.sizes.TheConstants.{FLUSH_BYTES}
 use Rattle.rb_log.proofs.GroupUnits.{piece}
+use Rattle.rb_log.proofs.SpareUnits.{spare_at, filled_spare}
 use Rattle.rb_log.proofs.WaitingLemmas.{one_more, more_groups, more_spelled}
 use Rattle.rb_log.proofs.log.Log.append.Goals.{After-put_body}
 use Rattle.rb_log.proofs.log.Log.append.Goals as goal
@@ -24,6 +25,9 @@ groups : (c : After-put_body) → groups_of (bodies_of (take (c.self.inside.wait
 groups c =
     let a = c.self.inside in
     ap groups_of (bodies c) ∙ more_groups (bodies_of (take a.waiting a.units.items)) (a.head.number + (a.used + a.waiting)) c.args.group.now c.patches-place.ensures.valid
+
+pub put_body-requires-clause-spare : goal.put_body-requires-clause-spare
+put_body-requires-clause-spare c = subst (λ (unit : List ℕ). IsSpare (body_of unit)) (get_or_default c.reach.new.units.items c.self.inside.waiting [] c.index_mut.result.now c.reach.ensures.there ∙ sym c.index_mut.ensures.value) (spare_at c.reach.new.units.items c.self.inside.waiting c.reach.ensures.there (c.reach.ensures.spare c.self.invariant.spare))
 
 pub invariant_of-self : goal.invariant_of-self
 invariant_of-self c =
@@ -46,6 +50,7 @@ invariant_of-self c =
       counts = ap length new ∙ omega (arith, length-append old (drop 1 (group_unit 0 number group) ∷ []), i.counts);
       each = subst (λ (gs : List (List Patch)). AllByRecursion (IsLoggable a.layout) gs) (sym (groups here)) (all_push (IsLoggable a.layout) (groups_of old) group i.each logged);
       spelled = subst (AreSpelled (a.head.number + a.used)) (sym new) (more_spelled old (a.head.number + a.used) number group c.patches-place.ensures.valid (omega (arith, i.counts)) i.spelled);
+      spare = filled_spare c.reach.new.units.items a.waiting number c.put_body.new.bytes group (c.reach.ensures.spare i.spare) c.patches-place.ensures.valid (c.put_body.ensures ∙ ap (λ (n : ℕ). piece n group 0) (omega (arith, c.from.ensures)));
       none = λ is. absurd (cc (scanned, is));
       units = i.units;
       few = i.few;

@@ -25,6 +25,7 @@ invariant_of-self c =
       counts = i.counts;
       each = i.each;
       spelled = subst (λ (n : ℕ). AreSpelled n (bodies_of (take a.waiting a.units.items))) (omega (arith, lower, upper)) i.spelled;
+      spare = i.spare;
       none = i.none;
       units = i.units;
       few = i.few;
