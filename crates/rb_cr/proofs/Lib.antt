@@ -9,8 +9,11 @@ pub mod Firsts
 pub mod Found
 pub mod Further
 pub mod Homes
+pub mod Inserting
 pub mod Loaded
+pub mod NextRow
 pub mod Overlays
+pub mod Paging
 pub mod Rebuilding
 pub mod Rooms
 pub mod Seeing
@@ -18,5 +21,6 @@ pub mod Settled
 pub mod Sharing
 pub mod Shown
 pub mod Stepping
+pub mod Telling
 pub mod Tops
 pub mod Values

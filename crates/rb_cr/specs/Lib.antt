@@ -7,8 +7,10 @@ pub mod Going
 pub mod Visible
 pub mod KeptRows
 pub mod Late
+pub mod Pages
 pub mod Parts
 pub mod Reads
+pub mod Rising
 pub mod Records
 pub mod Rows
 pub mod Scratches

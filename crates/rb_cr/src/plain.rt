@@ -15,10 +15,12 @@ use rb_cell::{CELL_BYTES, CELLS, Cell, CellFront, ROW, cell_place, front, value_
 use rb_model::Row;
 
 /// A cell with a row, and the key of that.
-#[derive(Clone, Copy)]
-pub(crate) struct KeyCell {
-    cell: usize,
-    key: u64,
+#[derive(Clone, Copy, Default)]
+pub struct KeyCell {
+    /// The cell, 0 to 15.
+    pub cell: usize,
+    /// The key of its row.
+    pub key: u64,
 }
 
 /// Cells whose rows are read as they stand.
@@ -152,7 +154,7 @@ fn least_at<C: PlainCells>(cells: &C, wanted: Wanted) -> Option<KeyCell>
 }
 
 /// Puts bytes in place of a value.
-fn put_value(value: &mut ArrayVec<u8, VALUE_BYTES>, bytes: &[u8])
+pub(crate) fn put_value(value: &mut ArrayVec<u8, VALUE_BYTES>, bytes: &[u8])
     requires { length bytes.now ≤ VALUE_BYTES }
     ensures { value.new.items ≡ bytes.now }
 {

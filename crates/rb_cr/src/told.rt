@@ -1,19 +1,21 @@
 //! The next row of a block that tells by itself that a snapshot sees each of its changes. Whoever reads rows in the
 //! order of their keys asks for it before anything is cleaned or rebuilt.
-ghost use Rattle.std.specs.Prelude.{[], ◌≡◌, ◌<◌, ℕ, true, false, not, None, Some, Ok, IfErr, IfOk, IfSome};
+ghost use Rattle.std.specs.Prelude.{[], ◌≡◌, ◌<◌, ℕ, true, false, not};
+ghost use Rattle.std.specs.Prelude.{None, Some, Ok, IfErr, IfOk, IfSome, OnOk};
 ghost use Rattle.std.specs.Result.{is_err};
 ghost use Rattle.rb_base.specs.Blocks.{block_of, shape_blocks};
 ghost use Rattle.rb_base.specs.Logs.{Logs};
 ghost use Rattle.rb_base.specs.declared.ids.Xid.{Xid};
 ghost use Rattle.rb_cr.specs.Builds.{IsHomeRead};
 ghost use Rattle.rb_cr.specs.Clauses.{answer_to};
+ghost use Rattle.rb_cr.specs.Pages.{IsPageOf};
 ghost use Rattle.rb_cr.specs.Rows.{IsNext, IsWanted};
 ghost use Rattle.rb_heap.specs.Cleaning.{cleaned_home};
 ghost use Rattle.rb_heap.specs.Homes.{home_of};
 ghost use Rattle.rb_txntable.specs.declared.looks.Look.{Look};
 ghost use Rattle.law_read.specs.Reading.{History};
 
-use crate::plain::{BlockCells, next_plain};
+use crate::pages::Page;
 use crate::rows::Wanted;
 use crate::scratch::Snapshot;
 use crate::visible::all_told_visible;
@@ -23,13 +25,14 @@ use rb_model::Row;
 /// Where each entry of a block tells by itself that it isn't above a snapshot, puts the row of the least key that is
 /// asked for, as the block showed it at the snapshot, into `row`: true where it showed one, and false where it showed
 /// none. None where the block doesn't tell, and nothing is known of its rows. One that tells has nothing to clean.
-/// Where no row is given the row stays as it was. `Failed` only where the block can't be loaded. The store is given no
-/// group.
+/// Where no row is given the row stays as it was. Where one is, a page for many rows has those behind it then, and else
+/// it has none. `Failed` only where the block can't be loaded. The store is given no group.
 pub fn next_told<S: Store>(
     store: &mut S,
     block: BlockNo,
     snapshot: &Snapshot,
     wanted: Wanted,
+    page: &mut Page,
     row: &mut Row,
 ) -> Result<Option<bool>, Failed>
     requires going { S.failed store.old ≡ false }
@@ -45,13 +48,17 @@ pub fn next_told<S: Store>(
         ≡ home_of (block_of (S.blocks store.old) block))) }
     ensures kept { IfOk result (λ told. (told ≡ Some true → ⊥) → row.new ≡ row.old) }
     ensures same { IfErr result (λ fault. row.new ≡ row.old) }
+    ensures page { S.tells → result ≡ Ok (Some true) → IfSome page.new (IsPageOf
+        (block_of (S.blocks store.old) block) snapshot.now.scn (Some row.new.key) wanted.lo wanted.hi) }
+    ensures none_told { (result ≡ Ok (Some true) → ⊥) → page.new ≡ None }
+    ensures loaded { OnOk result (S.loaded store.new ≡ Some block) }
     ensures logs { Logs S.Store store.old store.new [] (not (is_err result)) }
 {
+    page.clear();
     store.load(block)?;
     let bytes = store.block();
     if !all_told_visible(bytes, snapshot.scn) {
         return Ok(None);
     }
-    let cells = BlockCells { block: bytes };
-    Ok(Some(next_plain(&cells, wanted, row)))
+    Ok(Some(page.begin(bytes, wanted, row)))
 }
