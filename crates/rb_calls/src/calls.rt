@@ -3,9 +3,11 @@
 ghost use Rattle.std.specs.Prelude.{◌≡◌, ◌<◌, ℕ, None, Some};
 ghost use Rattle.rb_calls.specs.Fits.{FitsCaller};
 ghost use Rattle.rb_calls.specs.Made.{Made};
+ghost use Rattle.rb_engine.specs.Ahead.{IsAhead};
 ghost use Rattle.rb_model.specs.Answers.{answer_of};
 ghost use Rattle.rb_model.specs.Calls as machine;
 ghost use Rattle.rb_model.specs.Lines.{call_of, caller, most_calls};
+ghost use Rattle.rb_model.specs.Names.{name_text};
 ghost use Rattle.rb_script.specs.Commands.{asked_by, command_of};
 
 use crate::answers::{
@@ -13,8 +15,8 @@ use crate::answers::{
     answer_to_marks, answer_to_write,
 };
 use rb_base::{Shape, Store};
-use rb_engine::Engine;
-use rb_model::{Outcome, Row};
+use rb_engine::{Ahead, Engine};
+use rb_model::{Name, Outcome, Row};
 use rb_script::{Command, Request};
 
 /// How many calls a command makes at most over a file of that shape.
@@ -69,6 +71,23 @@ fn answer_to_request<T: Store>(
         Request::CloseCursor { name } => answer_to_call(engine.close_cursor(s, name)),
         Request::Cancel => answer_to_call(engine.cancel(s)),
     }
+}
+
+/// Fetches a row of a session's cursor as one of many, with what is known ahead. A row that it gives is in `row` then.
+pub fn answer_ahead<T: Store>(
+    engine: &mut Engine<T>,
+    s: u16,
+    name: &Name,
+    ahead: &mut Ahead,
+    row: &mut Row,
+) -> Outcome
+    requires ahead { IsAhead T.Store engine.old s (name_text name.now) ahead.old }
+    ensures ahead { IsAhead T.Store engine.new s (name_text name.now) ahead.new }
+    ensures made { Made T.Store (machine.Fetch s (name_text name.now)) (answer_of result row.new)
+        engine.old engine.new }
+    ensures fits { FitsCaller (Some s) result }
+{
+    answer_to_fetch(engine.fetch_ahead(s, name, ahead, row))
 }
 
 /// Makes the k-th call of a command, from 0 on. A row that it gives is in `row` then.

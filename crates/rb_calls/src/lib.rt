@@ -6,5 +6,5 @@ mod calls;
 mod resumes;
 
 pub use answers::answer_to_write;
-pub use calls::{answer, calls_of};
+pub use calls::{answer, answer_ahead, calls_of};
 pub use resumes::{Listener, MOST_READY, resume_ready};

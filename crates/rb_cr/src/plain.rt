@@ -153,11 +153,15 @@ fn least_at<C: PlainCells>(cells: &C, wanted: Wanted) -> Option<KeyCell>
     least_from(cells, from, wanted.hi)
 }
 
-/// Puts bytes in place of a value.
+/// Puts bytes in place of a value. As many as before are written over it, which most rows of a scan are.
 pub(crate) fn put_value(value: &mut ArrayVec<u8, VALUE_BYTES>, bytes: &[u8])
     requires { length bytes.now ≤ VALUE_BYTES }
     ensures { value.new.items ≡ bytes.now }
 {
+    if value.len() == bytes.len() {
+        value.as_mut_slice().copy_from_slice(bytes);
+        return;
+    }
     value.clear();
     if value.try_extend_from_slice(bytes).is_err() {
         unreachable!()

@@ -1,3 +1,4 @@
+pub mod AheadLemmas
 pub mod CleanLemmas
 pub mod CopyLemmas
 pub mod DoesLemmas

@@ -2,6 +2,7 @@
 //! roll back, also to a savepoint, and read by cursors, each in its mode. The shell runs the lines of a script by it.
 #![tactic(auto)]
 
+mod ahead;
 mod checks;
 mod cursors;
 mod engine;
@@ -18,4 +19,5 @@ mod savepoints;
 mod scan;
 mod write;
 
+pub use ahead::Ahead;
 pub use engine::Engine;

@@ -2,22 +2,26 @@
 //! snapshot. `fetch` calls it.
 ghost use Rattle.std.specs.Prelude.{◌≡◌, ◌⊎◌, ◌<◌, ◌≤◌, ◌%◌, ◌*◌, ℕ, List, length};
 ghost use Rattle.std.specs.Prelude.{true, false, not};
-ghost use Rattle.std.specs.Prelude.{None, Some, IfOk, IfErr, if◌then◌else◌, ◌==◌};
+ghost use Rattle.std.specs.Prelude.{None, Some, Ok, IfOk, IfErr, if◌then◌else◌, ◌==◌, is_some};
 ghost use Rattle.rb_base.specs.Groups.{Patch};
 ghost use Rattle.rb_base.specs.Logs.{Logs};
 ghost use Rattle.rb_base.specs.declared.ids.Xid.{Xid};
 ghost use Rattle.rb_base.specs.declared.sizes.TheConstants.{WORN};
 ghost use Rattle.rb_cr.specs.Faults.{is_failed};
-ghost use Rattle.rb_engine.specs.Cleaning.{Cleans, IsHere, MustIn, ReadIn, Serves};
+ghost use Rattle.rb_engine.specs.Ahead.{IsAheadOf, behind_key};
+ghost use Rattle.rb_engine.specs.Cleaning.{Cleans, IsClean, IsHere, MustIn, ReadIn, Serves};
 ghost use Rattle.rb_engine.specs.Scanning.{Begins, Finds, HasKey, HasNext, HasNone, IsBehind};
 ghost use Rattle.rb_model.specs.Next.{is_after};
 ghost use Rattle.rb_model.specs.State.{State};
 ghost use Rattle.law_copies.specs.Copies.{CopiesStand};
 ghost use Rattle.law_sessions.specs.Scan.{IsAskedKey};
+ghost use Rattle.law_sessions.specs.Views.{home_in};
+ghost use Rattle.rb_sessions.specs.declared.cursor.Cursor.{Cursor};
 
+use crate::ahead::Ahead;
 use rb_base::{Failed, Store, Workspace};
 use rb_copies::Copies;
-use rb_cr::{CrFault, Scratch, Snapshot, Wanted, next_at, next_told};
+use rb_cr::{CrFault, Scratch, Snapshot, Wanted, next_at, next_on_page, next_told};
 use rb_model::{Fetched, Row};
 use rb_sessions::Cursor;
 use rb_steps::clean_step;
@@ -111,6 +115,7 @@ fn next_in<S: Store>(
     cursor: &Cursor,
     g: u32,
     first: u32,
+    ahead: &mut Ahead,
     row: &mut Row,
 ) -> Result<bool, CrFault>
     requires going { S.failed store.old ≡ false }
@@ -138,7 +143,11 @@ fn next_in<S: Store>(
         × Logs S.Store store.old store.new groups (not (is_failed result)) × (length groups ≤ 1) }
     ensures young { is_failed result ≡ false
         → (S.lsn store.new ≤ WORN) ⊎ (S.lsn store.new ≡ S.lsn store.old) }
+    ensures ahead { IfOk result (λ found. found ≡ true
+        → IsAheadOf S.Store (behind_key row.new.key cursor.now) store.new ahead.new) }
+    ensures nothing { (result ≡ Ok true → ⊥) → ahead.new.rows ≡ None }
 {
+    ahead.page.clear();
     let blocks = store.shape().blocks;
     if !is_asked(cursor, blocks, g) {
         return Ok(false);
@@ -154,8 +163,11 @@ fn next_in<S: Store>(
         lo: cursor.lo,
         hi: cursor.hi,
     };
-    match next_told(store, block, &snapshot, wanted, row) {
-        Ok(Some(found)) => return Ok(found),
+    match next_told(store, block, &snapshot, wanted, &mut ahead.page, row) {
+        Ok(Some(found)) => {
+            ahead.home = g;
+            return Ok(found);
+        }
         Ok(None) => {}
         Err(Failed) => return Err(CrFault::Failed),
     }
@@ -163,6 +175,31 @@ fn next_in<S: Store>(
         return Err(CrFault::Failed);
     }
     next_at(store, block, &snapshot, wanted, scratch, copies, row)
+}
+
+/// Gives the next row of the home in which a cursor's last one was, from what is known ahead: false where the home has
+/// none behind it, and None where nothing is known of the home. The store isn't called but for the block that it loaded
+/// last.
+fn next_ahead<S: Store>(store: &S, ahead: &mut Ahead, home: u32, row: &mut Row) -> Option<bool>
+    requires loaded { is_some ahead.old.rows ≡ true → is_some (S.loaded store.now) ≡ true }
+    ensures given { S.tells → (m : Cursor) (h : State) (xids : List Xid) → IsAheadOf S.Store m store.now ahead.old
+        → Serves S.Store h xids m store.now → Begins h.shape.blocks home home m.last → home < h.shape.blocks
+        → result ≡ Some true → HasNext h xids (S.blocks store.now) m home row.new }
+    ensures none { S.tells → (m : Cursor) (h : State) (xids : List Xid) → IsAheadOf S.Store m store.now ahead.old
+        → Serves S.Store h xids m store.now → Begins h.shape.blocks home home m.last → home < h.shape.blocks
+        → result ≡ Some false → HasNone h xids (S.blocks store.now) m home }
+    ensures clean { S.tells → (m : Cursor) (h : State) (xids : List Xid) → IsAheadOf S.Store m store.now ahead.old
+        → Serves S.Store h xids m store.now → is_some result ≡ true
+        → IsClean h.shape (S.blocks store.now) (S.blocks store.now) (home_in h.shape m.table home) }
+    ensures ahead { (m : Cursor) → IsAheadOf S.Store m store.now ahead.old → result ≡ Some true
+        → IsAheadOf S.Store (behind_key row.new.key m) store.now ahead.new }
+    ensures nothing { (result ≡ Some true → ⊥) → (ahead.new.rows ≡ None) × (row.new ≡ row.old) }
+{
+    if ahead.home != home {
+        ahead.page.clear();
+        return None;
+    }
+    next_on_page(store, &mut ahead.page, row)
 }
 
 /// Puts the cursor's next row into `row`, where there is one. The homes are read from that of the last row on, up to
@@ -174,10 +211,12 @@ pub fn next_row<S: Store>(
     scratch: &mut Scratch,
     copies: &mut Copies,
     cursor: &Cursor,
+    ahead: &mut Ahead,
     row: &mut Row,
 ) -> Result<Fetched, CrFault>
     requires going { S.failed store.old ≡ false }
     requires table { (1 ≤ cursor.now.table) × (cursor.now.table ≤ (S.shape_of store.old).tables) }
+    requires ahead { IsAheadOf S.Store cursor.now store.old ahead.old }
     ensures found { S.tells → (h : State) (xids : List Xid) → Serves S.Store h xids cursor.now store.old
         → CopiesStand h xids (S.blocks store.old) copies.old.kept
         → Finds h xids (S.blocks store.old) cursor.now result row.new }
@@ -194,12 +233,22 @@ pub fn next_row<S: Store>(
     ensures logs { (groups : List (List Patch)) × Logs S.Store store.old store.new groups (not (is_failed result)) }
     ensures young { is_failed result ≡ false
         → (S.lsn store.new ≤ WORN) ⊎ (S.lsn store.new ≡ S.lsn store.old) }
+    ensures ahead { IfOk result (λ f. f ≡ Fetched.Row
+        → IsAheadOf S.Store (behind_key row.new.key cursor.now) store.new ahead.new) }
+    ensures nothing { (result ≡ Ok Fetched.Row → ⊥) → ahead.new.rows ≡ None }
 {
     let blocks = store.shape().blocks;
     let first = first_home(cursor, blocks);
+    let from = match next_ahead(store, ahead, first, row) {
+        Some(true) => return Ok(Fetched::Row),
+        Some(false) => first + 1,
+        None => first,
+    };
     let end = end_home(cursor, blocks);
-    for g in first..end {
-        match next_in(store, workspace, scratch, copies, cursor, g, first, row) {
+    for g in from..end {
+        match next_in(
+            store, workspace, scratch, copies, cursor, g, first, ahead, row,
+        ) {
             Err(fault) => return Err(fault),
             Ok(true) => return Ok(Fetched::Row),
             Ok(false) => {}

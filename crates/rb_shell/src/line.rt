@@ -1,28 +1,33 @@
 //! `step`: one line through the engine to the sink, and the writes that it has made ready. The run of a script does
 //! each line by `do_line`.
-ghost use Rattle.std.specs.Prelude.{◌≡◌, ◌++◌, ◌<◌, ◌≤◌, ℕ, false, [], None, IfErr, OnErr, OnOk};
+ghost use Rattle.std.specs.Prelude.{◌≡◌, ◌++◌, ◌<◌, ◌≤◌, ℕ, false, [], None, Some};
+ghost use Rattle.std.specs.Prelude.{IfErr, IfOk, OnErr, OnOk};
 ghost use Rattle.std.specs.Result.{is_err};
 ghost use Rattle.arrayvec.specs.ArrayVec.{array_vec_len};
 ghost use Rattle.rb_base.specs.Counts.{IsCounted, IsCountedAs, err_is};
+ghost use Rattle.rb_calls.specs.Fits.{FitsCaller};
 ghost use Rattle.rb_calls.specs.Since.{IsSince, StandsAs, engine_outside};
+ghost use Rattle.rb_engine.specs.Ahead.{IsAhead};
 ghost use Rattle.rb_engine.specs.Does.{SameStore};
 ghost use Rattle.rb_lines.specs.Faults.{IsCountedBeside, is_disk, is_sink};
 ghost use Rattle.rb_lines.specs.Ran.{CallsBegun, Did, LineBegun, LineRanAs};
+ghost use Rattle.rb_model.specs.Calls as machine;
 ghost use Rattle.rb_model.specs.Lines as lines;
 ghost use Rattle.rb_model.specs.Lines.{call_of, caller, most_calls};
+ghost use Rattle.rb_model.specs.Names.{name_text};
 ghost use Rattle.rb_model.specs.Out.{Logged, CommandOut, LineOut, LineSaid};
 ghost use Rattle.rb_model.specs.Queue.{first_ready};
-ghost use Rattle.rb_script.specs.Commands.{command_of};
+ghost use Rattle.rb_script.specs.Commands.{asked_by, command_of};
 ghost use Rattle.rb_shell.specs.Steps.{Calls, IsSkipped, Lost, SaidAs};
 
 use crate::replies::{OWN_BYTES, Waiting, reply_of, send, tell};
 use arrayvec::ArrayVec;
 use rb_base::Store;
-use rb_calls::{answer, calls_of, resume_ready};
-use rb_engine::Engine;
+use rb_calls::{answer, answer_ahead, calls_of, resume_ready};
+use rb_engine::{Ahead, Engine};
 use rb_lines::StepFault;
-use rb_model::{Outcome, Row};
-use rb_script::{Command, Reply, parse};
+use rb_model::{Name, Outcome, Row};
+use rb_script::{Command, Reply, Request, parse};
 use rb_stream::Sink;
 
 /// The most bytes of a line, without its LF.
@@ -74,9 +79,77 @@ fn call_once<T: Store, K: Sink>(
     Ok(answer)
 }
 
+/// Fetches a row of a cursor as one of many, and tells the answer.
+fn fetch_once<T: Store, K: Sink>(
+    engine: &mut Engine<T>,
+    s: u16,
+    name: &Name,
+    ahead: &mut Ahead,
+    row: &mut Row,
+    waiting: &mut Waiting,
+    sink: &mut K,
+) -> Result<Outcome, StepFault>
+    requires ahead { IsAhead T.Store engine.old s (name_text name.now) ahead.old }
+    ensures ahead { IsAhead T.Store engine.new s (name_text name.now) ahead.new }
+    ensures did { (m : Logged) → StandsAs T.Store engine.old m → m.state.stopped ≡ false
+        → Did (StandsAs T.Store) (IsSince T.Store) engine.old engine.new m (λ now. Calls m engine_outside
+        (Some s) (machine.Fetch s (name_text name.now)) row.new now K.tells (K.held sink.old)
+        waiting.old.bytes.items (K.held sink.new) waiting.new.bytes.items result) }
+    ensures fits { IfOk result (FitsCaller (Some s)) }
+    ensures room { OnOk result (array_vec_len waiting.new.bytes ≤ OWN_BYTES) }
+    ensures first { waiting.old.bytes.items ≡ [] → err_is is_sink result ≡ false }
+    ensures same { SameStore T.Store engine.old.store engine.new.store }
+    ensures disk { IsCountedBeside (T.faults engine.old.store) (T.faults engine.new.store) (err_is is_disk result)
+        (err_is is_sink result) }
+    ensures sink { IsCountedAs (K.faults sink.old) (K.faults sink.new) (err_is is_sink result) }
+{
+    let answer = answer_ahead(engine, s, name, ahead, row);
+    tell(&reply_of(Some(s), answer, row), waiting, sink)?;
+    Ok(answer)
+}
+
+/// Fetches up to `n` rows of a cursor, and tells them. It ends at the first answer that is no row.
+fn fetch_rows<T: Store, K: Sink>(
+    engine: &mut Engine<T>,
+    s: u16,
+    name: &Name,
+    n: u32,
+    waiting: &mut Waiting,
+    sink: &mut K,
+) -> Result<(), StepFault>
+    requires { waiting.old.bytes.items ≡ [] }
+    ensures did { (m : Logged) → StandsAs T.Store engine.old m → m.state.stopped ≡ false
+        → Did (StandsAs T.Store) (IsSince T.Store) engine.old engine.new m (λ now. SaidAs
+        (CommandOut m engine_outside (lines.FetchLine s (name_text name.now) n))
+        (CallsBegun m engine_outside (lines.FetchLine s (name_text name.now) n))
+        now K.tells (K.held sink.old) (K.held sink.new) waiting.new.bytes.items result) }
+    ensures room { OnOk result (array_vec_len waiting.new.bytes ≤ OWN_BYTES) }
+    ensures same { SameStore T.Store engine.old.store engine.new.store }
+    ensures disk { IsCountedBeside (T.faults engine.old.store) (T.faults engine.new.store) (err_is is_disk result)
+        (err_is is_sink result) }
+    ensures sink { IsCountedAs (K.faults sink.old) (K.faults sink.new) (err_is is_sink result) }
+{
+    let mut row = Row {
+        key: 0,
+        value: ArrayVec::new(),
+    };
+    let mut ahead = if n > 1 {
+        Ahead::of_many()
+    } else {
+        Ahead::of_one()
+    };
+    for _k in 0..n {
+        match fetch_once(engine, s, name, &mut ahead, &mut row, waiting, sink)? {
+            Outcome::Row => {}
+            _ => return Ok(()),
+        }
+    }
+    Ok(())
+}
+
 /// Makes a command's calls and tells their answers. They end at the first that is neither a row nor the marks of a
 /// segment.
-fn run_command<T: Store, K: Sink>(
+fn make_calls<T: Store, K: Sink>(
     engine: &mut Engine<T>,
     command: &Command<'_>,
     waiting: &mut Waiting,
@@ -104,6 +177,59 @@ fn run_command<T: Store, K: Sink>(
         }
     }
     Ok(())
+}
+
+/// Does the command by which a session asks for something.
+fn run_request<T: Store, K: Sink>(
+    engine: &mut Engine<T>,
+    command: &Command<'_>,
+    s: u16,
+    request: &Request<'_>,
+    waiting: &mut Waiting,
+    sink: &mut K,
+) -> Result<(), StepFault>
+    requires asked { command_of command.now ≡ asked_by s request.now }
+    requires empty { waiting.old.bytes.items ≡ [] }
+    ensures did { (m : Logged) → StandsAs T.Store engine.old m → m.state.stopped ≡ false
+        → Did (StandsAs T.Store) (IsSince T.Store) engine.old engine.new m (λ now. SaidAs
+        (CommandOut m engine_outside (asked_by s request.now)) (CallsBegun m engine_outside (asked_by s request.now))
+        now K.tells (K.held sink.old) (K.held sink.new) waiting.new.bytes.items result) }
+    ensures room { OnOk result (array_vec_len waiting.new.bytes ≤ OWN_BYTES) }
+    ensures same { SameStore T.Store engine.old.store engine.new.store }
+    ensures disk { IsCountedBeside (T.faults engine.old.store) (T.faults engine.new.store) (err_is is_disk result)
+        (err_is is_sink result) }
+    ensures sink { IsCountedAs (K.faults sink.old) (K.faults sink.new) (err_is is_sink result) }
+{
+    match request {
+        Request::Fetch { name, n } => fetch_rows(engine, s, name, *n, waiting, sink),
+        _ => make_calls(engine, command, waiting, sink),
+    }
+}
+
+/// Does a command: makes its calls and tells their answers.
+fn run_command<T: Store, K: Sink>(
+    engine: &mut Engine<T>,
+    command: &Command<'_>,
+    waiting: &mut Waiting,
+    sink: &mut K,
+) -> Result<(), StepFault>
+    requires { waiting.old.bytes.items ≡ [] }
+    ensures did { (m : Logged) → StandsAs T.Store engine.old m → m.state.stopped ≡ false
+        → Did (StandsAs T.Store) (IsSince T.Store) engine.old engine.new m (λ now. SaidAs
+        (CommandOut m engine_outside (command_of command.now)) (CallsBegun m engine_outside (command_of command.now))
+        now K.tells (K.held sink.old) (K.held sink.new) waiting.new.bytes.items result) }
+    ensures room { OnOk result (array_vec_len waiting.new.bytes ≤ OWN_BYTES) }
+    ensures same { SameStore T.Store engine.old.store engine.new.store }
+    ensures disk { IsCountedBeside (T.faults engine.old.store) (T.faults engine.new.store) (err_is is_disk result)
+        (err_is is_sink result) }
+    ensures sink { IsCountedAs (K.faults sink.old) (K.faults sink.new) (err_is is_sink result) }
+{
+    match command {
+        Command::Session { s, request } => {
+            run_request(engine, command, *s, request, waiting, sink)
+        }
+        _ => make_calls(engine, command, waiting, sink),
+    }
 }
 
 /// Does what one line does itself, and leaves the last of its replies waiting.

@@ -1,4 +1,4 @@
-use Rattle.std.proofs.Common.{inl, ◌<◌, Option, MatchOption, length, ◌≡◌, ℕ, Bool, true, false, not, List, None, Some, Result, Ok, Err, refl, sym, ◌∙◌, ap, subst}
+use Rattle.std.proofs.Common.{inl, ◌<◌, ◌-◌, arith, Option, MatchOption, IfSome, length, ◌≡◌, ℕ, Bool, true, false, not, List, None, Some, Result, Ok, Err, refl, sym, ◌∙◌, ap, subst}
 use Rattle.std.proofs.lemmas.Result.{err_from_is_err_and}
 use Rattle.rb_base.specs.Logs.{Laws, Logs}
 use Rattle.rb_cr.specs.Faults.{is_fault}
@@ -6,10 +6,12 @@ use Rattle.rb_base.specs.declared.ids.Xid.{Xid}
 use Rattle.rb_base.specs.declared.store.Store.{Ghosts}
 use Rattle.rb_cr.specs.declared.faults.CrFault.{CrFault}
 use Rattle.rb_cr.specs.declared.faults.CrFault.TheVariants as faults
+use Rattle.rb_engine.specs.Ahead.{IsAheadOf, IsAt, behind_key}
 use Rattle.rb_engine.specs.Cleaning.{Cleans, ReadIn}
 use Rattle.rb_model.specs.State.{State}
 use Rattle.law_copies.specs.Copies.{CopiesStand}
 use Rattle.rb_engine.specs.Does.{with_copies, EngineView, Kept}
+use Rattle.rb_engine.proofs.AheadLemmas.{ahead_of, at_moved, named_moved, of_ahead, place_ahead}
 use Rattle.rb_engine.proofs.CopyLemmas.{knows_copies}
 use Rattle.rb_engine.proofs.DoesLemmas.{does_fault_known, does_refused, does_refused_late, knows_stop}
 use Rattle.rb_engine.proofs.FetchLemmas.{answer_by, cleans_read, does_end, does_old, does_row, needs_lost, not_old, read_by, same_old, serves}
@@ -60,7 +62,7 @@ returns-in_default-clause-did g c = λ h st.
     let goes = st.goes going in
     let table_is : c.memory.inside.sessions ≡ kept.sessions = ap (λ (k : Kept). k.sessions) c.memory.view_is in
     let nothing : named name (kept_at kept.sessions c.args.s).cursors ≡ None =
-    ap (λ (l : List KeptSession). named name (kept_at l c.args.s).cursors) (sym table_is) ∙ (subst (λ (o : Option ℕ). MatchOption o (named name (kept_at c.memory.inside.sessions c.args.s).cursors ≡ None) (λ place. (place < length (kept_at c.memory.inside.sessions c.args.s).cursors) × IsPlaceOf name (kept_at c.memory.inside.sessions c.args.s).cursors place)) c.in_default.is c.cursor_place.ensures) in
+    ap (λ (l : List KeptSession). named name (kept_at l c.args.s).cursors) (sym table_is) ∙ (subst (λ (o : Option ℕ). MatchOption o (named name (kept_at c.memory.inside.sessions c.args.s).cursors ≡ None) (λ place. (place < length (kept_at c.memory.inside.sessions c.args.s).cursors) × IsPlaceOf name (kept_at c.memory.inside.sessions c.args.s).cursors place)) c.in_default.is c.place_of.ensures) in
     let none = (named_is h goes.xids _ c.args.s name kept.sessions goes.remembers e.session.0 e.session.1).0 nothing in
     does_refused_late s (laws_of g) h call NoCursor (record { memory = kept; store = c.args.store.now }) st c.requires.step.going
     (MayAnswer.later (machine.name_tests h call) (e.granted h st.knows) refl (answer_by h c.args.s name None (Refused NoCursor) none refl)) (λ clash. cc)
@@ -73,6 +75,20 @@ next_row-requires-clause-table g c =
     let table_is : c.memory.inside.sessions ≡ kept.sessions = ap (λ (k : Kept). k.sessions) c.memory.view_is in
     named_in (s.shape_of c.args.store.now) name (kept_at kept.sessions c.args.s).cursors c.cursor_at-cursor.result (c.requires.step.tables c.args.s)
     (ap (λ (l : List KeptSession). named name (kept_at l c.args.s).cursors) (sym table_is) ∙ (c.cursor_at-cursor.ensures (name_text c.args.name.now) c.in-Some.ensures.1))
+
+pub place_of-requires-clause-ahead : goal.place_of-requires-clause-ahead
+place_of-requires-clause-ahead g c =
+    let kept = c.args.memory.now in
+    let name = name_text c.args.name.now in
+    subst (λ (k : Kept). IfSome c.args.ahead.now.rows (λ rows. IsAt name (kept_at k.sessions c.args.s).cursors c.args.ahead.now.place)) (sym c.memory.view_is) (place_ahead g.T.Store kept c.args.store.now c.args.s name c.args.ahead.now c.requires.ahead)
+
+pub next_row-requires-clause-ahead : goal.next_row-requires-clause-ahead
+next_row-requires-clause-ahead g c =
+    let kept = c.args.memory.now in
+    let name = name_text c.args.name.now in
+    let table_is : c.memory.inside.sessions ≡ kept.sessions = ap (λ (k : Kept). k.sessions) c.memory.view_is in
+    let is_named = ap (λ (l : List KeptSession). named name (kept_at l c.args.s).cursors) (sym table_is) ∙ (c.cursor_at-cursor.ensures (name_text c.args.name.now) c.in-Some.ensures.1) in
+    of_ahead g.T.Store kept c.args.store.now c.args.s name c.cursor_at-cursor.result c.args.ahead.now is_named c.requires.ahead
 
 -- the table with the row's key as the cursor's last one
 moved_by : (g : Over) (c : goal.After-took_at g) → c.took_at.new.self ≡ with_kept c.args.memory.now.sessions c.args.s
@@ -100,6 +116,22 @@ returns-in-Ok-Row-clause-step g c =
     in_step_moved s kept now old new step logs.same_shape c.args.s there k fit moved
     (queue_moved s kept now old new step logs.same_shape c.args.s there k fit moved refl (inl (ap (λ (k : Kept). k.waits) c.memory.view_is)))
     (λ _. (logs.failed, few_young s kept now old new step logs.same_shape c.args.s there k fit moved c.in_ok-check_session.ensures.going (fit.small) refl (c.in-Ok-Row.ensures.young refl)))
+
+pub returns-in-Ok-Row-clause-ahead : goal.returns-in-Ok-Row-clause-ahead
+returns-in-Ok-Row-clause-ahead g c =
+    let kept = c.args.memory.now in
+    let name = name_text c.args.name.now in
+    let key = c.next_row.new.row.key in
+    let m = c.cursor_at-cursor.result in
+    let table_is : c.memory.inside.sessions ≡ kept.sessions = ap (λ (k : Kept). k.sessions) c.memory.view_is in
+    let is_named = ap (λ (l : List KeptSession). named name (kept_at l c.args.s).cursors) (sym table_is) ∙ (c.cursor_at-cursor.ensures (name_text c.args.name.now) c.in-Some.ensures.1) in
+    let there = c.in_ok-check_session.ensures.session in
+    let in_table : c.args.s - 1 < length kept.sessions = let n = c.requires.step.counted in omega (arith, n, there) in
+    let now : Kept = record { sessions = c.took_at.new.self; waits = c.memory.inside.waits; scn = c.memory.inside.scn; stopped = c.memory.inside.stopped; copies = c.next_row.new.copies } in
+    ahead_of g.T.Store now c.next_row.new.store c.args.s name (behind_key key m) (record { place = c.in-Some.place; home = c.ahead.inside.home; rows = c.ahead.inside.page })
+    (subst (λ (l : List KeptSession). named name (kept_at l c.args.s).cursors ≡ Some (behind_key key m)) (sym (moved_by g c)) (named_moved kept.sessions c.args.s name key m in_table is_named))
+    (subst (λ (l : List KeptSession). IsAt name (kept_at l c.args.s).cursors c.in-Some.place) (sym (moved_by g c)) (at_moved kept.sessions c.args.s name key c.in-Some.place in_table (subst (λ (l : List KeptSession). IsAt name (kept_at l c.args.s).cursors c.in-Some.place) table_is c.in-Some.ensures)))
+    (subst (IsAheadOf g.T.Store (behind_key key m) c.next_row.new.store) (sym c.ahead.view_is) (c.in-Ok-Row.ensures.ahead c.in-Ok-Row.field-0-is))
 
 pub returns-in-Ok-Row-clause-did : goal.returns-in-Ok-Row-clause-did
 returns-in-Ok-Row-clause-did g c = λ h st.

@@ -1,4 +1,4 @@
-use Rattle.std.proofs.Common.{◌≡◌, inr, Bool, true, [], None, false, refl, sym, ◌∙◌, ap, subst, arith, List, map, ◌-◌}
+use Rattle.std.proofs.Common.{◌≡◌, inr, Bool, true, None, false, refl, sym, ◌∙◌, ap, subst, arith, List, map, ◌-◌}
 use Rattle.std.proofs.lemmas.Result.{err_from_is_err_and}
 use Rattle.rb_base.specs.Logs.{Laws}
 use Rattle.rb_engine.specs.Checks.{Refuses}

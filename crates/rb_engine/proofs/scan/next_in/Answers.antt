@@ -10,7 +10,7 @@ use Rattle.rb_heap.specs.Cleaning.{cleaned_home}
 use Rattle.rb_heap.specs.Homes.{home_of}
 use Rattle.rb_txntable.specs.declared.looks.Look.{Look}
 use Rattle.law_blocks.specs.Standing.{env_of}
-use Rattle.rb_engine.specs.Cleaning.{Cleans, HasCleaned, IsClean, IsHere, IsOnTheWay, Serves}
+use Rattle.rb_engine.specs.Cleaning.{HasCleaned, IsClean, IsHere, IsOnTheWay, Serves}
 use Rattle.rb_engine.specs.Scanning.{Begins, HasKey, HasNext, HasNone, IsBehind}
 use Rattle.rb_engine.proofs.CleanLemmas.{behind_same, cleans_loaded, env_same, in_table, loaded_cleans, next_same, none_cleaned, none_same, same_or_clean, serves_loaded, serves_on, step_cleaned, step_fails}
 use Rattle.rb_engine.proofs.DoesLemmas.{fault_survives}

@@ -1,16 +1,20 @@
-use Rattle.std.proofs.Common.{◌≡◌, ◌<◌, ◌≤◌, ◌%◌, ◌+◌, ◌++◌, inl, inr, Option, Some, None, ℕ, List, [], true, false, not, Bool, sym, refl, ap, ◌∙◌, subst, arith}
+use Rattle.std.proofs.Common.{◌≡◌, ◌⊎◌, ⊎_elim, ◌<◌, ◌≤◌, ◌%◌, ◌+◌, ◌++◌, inl, inr, Option, Some, None, ℕ, List, [], true, false, not, is_some, Bool, Result, Ok, sym, refl, ap, ◌∙◌, subst, arith}
 use Rattle.std.proofs.lemmas.Bool.{cases_eq, cases_lt}
 use Rattle.rb_base.specs.Logs.{Laws, more_logs, no_logs}
 use Rattle.rb_base.specs.declared.ids.Xid.{Xid}
 use Rattle.rb_base.specs.declared.shape.Shape.{Shape}
 use Rattle.rb_cr.specs.Faults.{is_fault}
-use Rattle.rb_engine.specs.Cleaning.{Cleans, IsBefore, IsHere, MustIn, ReadIn, Serves}
+use Rattle.rb_cr.specs.declared.faults.CrFault.{CrFault}
+use Rattle.rb_engine.specs.Cleaning.{Cleans, IsBefore, IsClean, IsHere, MustIn, ReadIn, Serves}
 use Rattle.rb_engine.specs.Scanning.{Begins, HasKey, HasNext, HasNone}
 use Rattle.rb_engine.proofs.CleanLemmas.{behind_same, cleaned_as, env_mid, in_table, next_same, none_cleaned, none_same, read_by_end, read_in_table, read_no_more, read_up_to, same_or_clean, serves_mid, turn_fails, turned, young_on}
 use Rattle.rb_model.specs.State.{State}
 use Rattle.law_sessions.specs.Scan.{IsAskedKey}
+use Rattle.law_sessions.specs.Views.{home_in}
+use Rattle.rb_sessions.specs.declared.cursor.Cursor.{Cursor}
 use Rattle.rb_engine.proofs.scan.next_row.Given.{Over}
 use Rattle.rb_engine.proofs.scan.next_row.Goals as goal
+use Rattle.rb_engine.proofs.scan.next_row.Goals.{in-Some-false, in-None}
 
 laws_of : (g : Over) → Laws g.S.Store
 laws_of g = record {
@@ -23,33 +27,137 @@ laws_of g = record {
   holds_back_joined = λ a b c first second. g.met.S.Store.holds_back_joined a b c first second;
 }
 
+-- from where on homes are searched: from the first one, or the one behind it where that has no more rows
+from_where : (g : Over) (c : goal.After-end_home-end g) → ((c.match-next_ahead.from ≡ c.first_home-first.result) × (c.next_ahead.result ≡ None)) ⊎ ((c.match-next_ahead.from ≡ c.first_home-first.result + 1) × (c.next_ahead.result ≡ Some false))
+from_where g c = elim c.match-next_ahead.branch [
+  | in-Some-false w ↦ inr (w.from-is, w.in-Some-false.is ∙ ap Some w.in-Some-false.field-0-test)
+  | in-None w ↦ inl (w.from-is, w.in-None.is)
+]
+
+-- no row was given then
+not_given : (g : Over) (c : goal.After-end_home-end g) → c.next_ahead.result ≡ Some true → ⊥
+not_given g c given = ⊎_elim (λ same. no_row c.next_ahead.result same.1 given) (λ later. no_more c.next_ahead.result later.1 given) (from_where g c)
+  where
+    no_row : (o : Option Bool) → o ≡ None → o ≡ Some true → ⊥
+    no_row o is given = (let clash : None ≡ Some true = sym is ∙ given in absurd cc)
+
+    no_more : (o : Option Bool) → o ≡ Some false → o ≡ Some true → ⊥
+    no_more o is given = (let clash : Some false ≡ Some true = sym is ∙ given in absurd cc)
+
+-- one that is false isn't true
+ok_false : (b : Bool) → b ≡ false → (let r : Result Bool CrFault = Ok b in r) ≡ Ok true → ⊥
+ok_false b is given = (let same : b ≡ true = cc in let clash : false ≡ true = sym is ∙ same in absurd cc)
+
+-- no home on the way comes before the first
+not_before : (lo hi : ℕ) (last : Option ℕ) (first blocks code f : ℕ) → code ≡ blocks → f < first → HasKey blocks lo hi f → ((l : ℕ) → last ≡ Some l → l % blocks ≤ f)
+    → ((e k : ℕ) → e < first → IsAskedKey code lo hi last e k → ⊥) → ((l : ℕ) → last ≡ Some l → first ≡ l % code) → ⊥
+not_before lo hi None first blocks code f same less (k, home, low, high) behind skips at =
+    skips f k less (record { home = ap (λ (n : ℕ). k % n) same ∙ home; low = low; high = high; after = refl })
+not_before lo hi (Some l) first blocks code f same less key behind skips at =
+    let is = at l refl in let le = behind l refl in let bs = ap (λ (n : ℕ). l % n) same in omega (arith, is, le, bs, less)
+
+-- what is ahead is of the first home, and no home before it has a row behind the last one
+module _ (h : State) (xids : List Xid) (blocks : List (List ℕ)) (m : Cursor) (code : Shape) (same : code ≡ h.shape) (first : ℕ) (within : first < code.blocks)
+    (skips : (f k : ℕ) → f < first → IsAskedKey code.blocks m.lo m.hi m.last f k → ⊥) (at : (l : ℕ) → m.last ≡ Some l → first ≡ l % code.blocks) where
+  there : first < h.shape.blocks
+  there = subst (λ (z : Shape). first < z.blocks) same within
+
+  begins : Begins h.shape.blocks first first m.last
+  begins = (omega arith, λ l is. at l is ∙ ap (λ (z : Shape). l % z.blocks) same)
+
+  none_before : (f : ℕ) → f < first → HasNone h xids blocks m f
+  none_before f before k asked = absurd (skips f k before (subst (λ (z : Shape). IsAskedKey z.blocks m.lo m.hi m.last f k) (sym same) asked))
+
+  -- each home up to the first one that is on the way is clean where the first is
+  clean_before : (now : List (List ℕ)) → IsClean h.shape blocks now (home_in h.shape m.table first) → (b : ℕ) → IsBefore h.shape m (first + 1) b → IsClean h.shape blocks now b
+  clean_before now clean b (f, less, here) = elim (cases_lt f first) [
+    | inl before ↦ absurd (not_before m.lo m.hi m.last first h.shape.blocks code.blocks f (ap (λ (z : Shape). z.blocks) same) before here.0.key here.0.behind skips at)
+    | inr from ↦
+        let is : first ≡ f = omega (arith, from, less) in
+        subst (IsClean h.shape blocks now) (ap (λ (n : ℕ). home_in h.shape m.table n) is ∙ sym here.1) clean
+  ]
+
+  none_on_way : (b : ℕ) → IsBefore h.shape m first b → ⊥
+  none_on_way b (f, less, here) = not_before m.lo m.hi m.last first h.shape.blocks code.blocks f (ap (λ (z : Shape). z.blocks) same) less here.0.key here.0.behind skips at
+
 pub loop-g-init : goal.loop-g-init
 loop-g-init g c =
     let m = c.args.cursor.now in
     let s = g.S.Store in
     let old = c.args.store.now in
+    let e = c.first_home-first.ensures in
+    let first = c.first_home-first.result in
+    let from = c.match-next_ahead.from in
+    let code = c.shape-blocks.result in
+    let a = c.next_ahead.ensures in
+    let quiet = a.nothing (not_given g c) in
     record {
-      there = let bs = ap (λ (z : Shape). z.blocks) c.shape-blocks.ensures.shape in let within = c.first_home-first.ensures.within in omega (arith, bs, within);
+      there = let bs = ap (λ (z : Shape). z.blocks) c.shape-blocks.ensures.shape in let within = e.within in ⊎_elim (λ same. let is = same.0 in omega (arith, bs, within, is)) (λ later. let is = later.0 in omega (arith, bs, within, is)) (from_where g c);
       groups = [];
       logs = no_logs s old c.requires.going;
       young = inr refl;
-      row = refl;
-      none = λ told h xids serves copies f before k asked.
-          absurd (c.first_home-first.ensures.skips f k before (subst (λ (z : Shape). IsAskedKey z.blocks m.lo m.hi m.last f k) (sym (c.shape-blocks.ensures.shape ∙ serves.shape)) asked));
+      row = quiet.1;
+      behind = ⊎_elim (λ same. let is = same.0 in omega (arith, is)) (λ later. let is = later.0 in omega (arith, is)) (from_where g c);
+      nothing = quiet.0;
+      none = λ told h xids serves copies f before.
+          let same = c.shape-blocks.ensures.shape ∙ serves.shape in
+          let blocks = s.blocks old in elim (cases_lt f first) [
+            | inl less ↦ none_before h xids blocks m code same first e.within e.skips e.last f less
+            | inr past ↦ ⊎_elim
+                (λ same. let is = same.0 in absurd (let no : ⊥ = omega (arith, past, before, is) in no))
+                (λ later.
+                let up = later.0 in
+                let is : first ≡ f = omega (arith, past, before, up) in
+                subst (HasNone h xids blocks m) is
+                (a.none told m h xids c.requires.ahead serves (begins h xids blocks m code same first e.within e.skips e.last) (there h xids blocks m code same first e.within e.skips e.last) later.1))
+                (from_where g c)
+          ];
       cleaned = λ told h xids serves copies.
-          let bs : c.shape-blocks.result.blocks ≡ h.shape.blocks = ap (λ (z : Shape). z.blocks) (c.shape-blocks.ensures.shape ∙ serves.shape) in
-          none_cleaned s told (laws_of g) h xids m (IsBefore h.shape m c.first_home-first.result) (IsBefore h.shape m c.first_home-first.result) c.first_home-first.result old old serves (no_logs s old c.requires.going)
-          (λ b is spare. absurd (not_before m.lo m.hi m.last c.first_home-first.result h.shape.blocks c.shape-blocks.result.blocks is.0 bs is.1 is.2.0.key is.2.0.behind c.first_home-first.ensures.skips c.first_home-first.ensures.last));
+          let same = c.shape-blocks.ensures.shape ∙ serves.shape in
+          let blocks = s.blocks old in
+          none_cleaned s told (laws_of g) h xids m (IsBefore h.shape m from) (IsBefore h.shape m from) from old old serves (no_logs s old c.requires.going)
+          (λ b is spare. ⊎_elim
+          (λ same_one. absurd (none_on_way h xids blocks m code same first e.within e.skips e.last b (subst (λ (n : ℕ). IsBefore h.shape m n b) same_one.0 is)))
+          (λ later. clean_before h xids blocks m code same first e.within e.skips e.last blocks (a.clean told m h xids c.requires.ahead serves (ap (λ (z : Option Bool). is_some z) later.1)) b (subst (λ (n : ℕ). IsBefore h.shape m n b) later.0 is))
+          (from_where g c));
       copies = λ told h xids serves copies. copies;
     }
-  where
-    -- no home on the way comes before the first
-    not_before : (lo hi : ℕ) (last : Option ℕ) (first blocks code f : ℕ) → code ≡ blocks → f < first → HasKey blocks lo hi f → ((l : ℕ) → last ≡ Some l → l % blocks ≤ f)
-        → ((e k : ℕ) → e < first → IsAskedKey code lo hi last e k → ⊥) → ((l : ℕ) → last ≡ Some l → first ≡ l % code) → ⊥
-    not_before lo hi None first blocks code f same less (k, home, low, high) behind skips at =
-        skips f k less (record { home = ap (λ (n : ℕ). k % n) same ∙ home; low = low; high = high; after = refl })
-    not_before lo hi (Some l) first blocks code f same less key behind skips at =
-        let is = at l refl in let le = behind l refl in let bs = ap (λ (n : ℕ). l % n) same in omega (arith, is, le, bs, less)
+
+-- a row that was ahead
+pub returns-in-Some-true-clause-found : goal.returns-in-Some-true-clause-found
+returns-in-Some-true-clause-found g c = λ told h xids serves copies.
+    let m = c.args.cursor.now in
+    let blocks = g.S.Store.blocks c.args.store.now in
+    let e = c.first_home-first.ensures in
+    let first = c.first_home-first.result in
+    let code = c.shape-blocks.result in
+    let same = c.shape-blocks.ensures.shape ∙ serves.shape in
+    let is = c.in-Some-true.is ∙ ap Some c.in-Some-true.field-0-test in
+    let in_table = there h xids blocks m code same first e.within e.skips e.last in (
+      first,
+      in_table,
+      none_before h xids blocks m code same first e.within e.skips e.last,
+      c.next_ahead.ensures.given told m h xids c.requires.ahead serves (begins h xids blocks m code same first e.within e.skips e.last) in_table is,
+    )
+
+pub returns-in-Some-true-clause-cleans : goal.returns-in-Some-true-clause-cleans
+returns-in-Some-true-clause-cleans g c = λ told h xids serves copies.
+    let s = g.S.Store in
+    let m = c.args.cursor.now in
+    let old = c.args.store.now in
+    let blocks = s.blocks old in
+    let e = c.first_home-first.ensures in
+    let first = c.first_home-first.result in
+    let code = c.shape-blocks.result in
+    let same = c.shape-blocks.ensures.shape ∙ serves.shape in
+    let is = c.in-Some-true.is ∙ ap Some c.in-Some-true.field-0-test in
+    let next = c.next_ahead.ensures.given told m h xids c.requires.ahead serves (begins h xids blocks m code same first e.within e.skips e.last) (there h xids blocks m code same first e.within e.skips e.last) is in
+    none_cleaned s told (laws_of g) h xids m (ReadIn h xids blocks m) (ReadIn h xids blocks m) h.shape.blocks old old serves (no_logs s old c.requires.going)
+    (λ b read young. clean_before h xids blocks m code same first e.within e.skips e.last blocks (c.next_ahead.ensures.clean told m h xids c.requires.ahead serves (ap (λ (z : Option Bool). is_some z) is)) b
+    (read_no_more s told (laws_of g) h xids m first old c.next_ahead.new.row next b read))
+
+pub returns-in-Some-true-clause-logs : goal.returns-in-Some-true-clause-logs
+returns-in-Some-true-clause-logs g c = ([], no_logs g.S.Store c.args.store.now c.requires.going)
 
 below : (n end blocks : ℕ) → n < end → end ≤ blocks → n < blocks
 below n end blocks lt le = omega (arith, lt, le)
@@ -68,7 +176,7 @@ pub next_in-requires-clause-begins : goal.next_in-requires-clause-begins
 next_in-requires-clause-begins g c =
     let e = c.first_home-first.ensures in
     subst (λ (z : Shape). Begins z.blocks c.first_home-first.result c.loop-g.g c.args.cursor.now.last) (c.shape-blocks.ensures.shape ∙ sym c.loop-g.invariant.logs.same_shape)
-    (c.loop-g.auto.g, e.last)
+    (c.loop-g.invariant.behind, e.last)
 
 -- the same fault behind the homes that were cleaned
 pub returns-in-Err-clause-found : goal.returns-in-Err-clause-found
@@ -88,7 +196,7 @@ returns-in-Err-clause-found g c = λ told h xids serves copies.
       both.0,
       λ l at.
           let first_is = c.first_home-first.ensures.last l at in
-          let le = c.loop-g.auto.g in
+          let le = inv.behind in
           let bs : l % c.shape-blocks.result.blocks ≡ l % h.shape.blocks = ap (λ (z : Shape). l % z.blocks) (c.shape-blocks.ensures.shape ∙ serves.shape) in
           omega (arith, first_is, le, bs),
       behind_same h xids (s.blocks old) (s.blocks mid) serves.holds.blocks m c.loop-g.g (in_table m.table c.loop-g.g h.shape there (subst (λ (k : Shape). (1 ≤ m.table) × (m.table ≤ k.tables)) serves.shape c.requires.table))
@@ -192,6 +300,8 @@ loop-g-preserved g c =
       logs = more_logs s old mid new inv.groups step.0 true inv.logs step.1;
       young = young_on _ (s.lsn old) (s.lsn mid) (s.lsn new) inv.young (c.in-Ok-false.ensures.young refl);
       row = c.in-Ok-false.ensures.kept c.in-Ok-false.field-0-test ∙ inv.row;
+      behind = let le = inv.behind in omega (arith, le);
+      nothing = c.in-Ok-false.ensures.nothing (ok_false c.in-Ok-false.field-0 c.in-Ok-false.field-0-test);
       none = λ told h xids serves copies f up. elim (cases_eq f c.loop-g.g) [
         | inl this ↦
             let before = inv.cleaned told h xids serves copies in

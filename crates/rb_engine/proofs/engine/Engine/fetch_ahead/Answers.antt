@@ -7,7 +7,7 @@ use Rattle.rb_model.specs.Names.{name_text}
 use Rattle.rb_engine.proofs.TellsLemmas.{tells_fetched}
 use Rattle.law_crash.specs.Made.{TellsLooks}
 use Rattle.rb_engine.specs.Makes.{Makes}
-use Rattle.rb_engine.proofs.engine.Engine.fetch.Goals as goal
+use Rattle.rb_engine.proofs.engine.Engine.fetch_ahead.Goals as goal
 
 pub returns-clause-did : goal.returns-clause-did
 returns-clause-did g c = λ h st.
