@@ -16,20 +16,16 @@ use crate::cached_file::CachedFile;
 use rb_base::{Failed, Group, Lsn};
 use rb_disk::Disk;
 
-/// Whether a patch before that of place `i` is of the same block. A block that is patched gets all its patches at once,
-/// so it need not be found again for the others.
+/// Whether the patch before that of place `i`, or the first one of all, is of the same block. A block that is patched
+/// gets all its patches at once, so it need not be found again for the others. Those of one block stand together in a
+/// group, but for the home of a write, whose cleaning comes first and whose cell comes last.
 fn is_patched_before(group: &Group, i: u32) -> bool
     requires { i < length group.now }
     ensures { result ≡ true → (d : Patch)
         → has_block (slice_index_or group.now i d).block (take i group.now) ≡ true }
 {
     let block = group.patch_block(i);
-    for earlier in 0..i {
-        if group.patch_block(earlier) == block {
-            return true;
-        }
-    }
-    false
+    i > 0 && (group.patch_block(i - 1) == block || group.patch_block(0) == block)
 }
 
 /// Patches each block of the group, where its log number is below the group's. What comes home on the way is a block as
