@@ -1,5 +1,5 @@
-//! `Ahead`: what a fetch has seen of the rows that the next ones of its cursor will give. Whoever fetches many rows in a
-//! row keeps one between the calls.
+//! `Ahead`: what a fetch has seen of the rows that the next ones of its cursor will give. Whoever fetches many rows
+//! keeps one between the calls.
 ghost use Rattle.std.specs.Prelude.{◌≡◌, None};
 
 use rb_cr::Page;
