@@ -8,6 +8,7 @@ pub mod Extents
 pub mod Firsts
 pub mod Found
 pub mod Further
+pub mod GoingOn
 pub mod Homes
 pub mod Inserting
 pub mod Loaded

@@ -8,7 +8,8 @@ ghost use Rattle.rb_base.specs.Logs.{Logs};
 ghost use Rattle.rb_base.specs.declared.ids.Xid.{Xid};
 ghost use Rattle.rb_cr.specs.Builds.{IsHomeRead};
 ghost use Rattle.rb_cr.specs.Clauses.{answer_to};
-ghost use Rattle.rb_cr.specs.Pages.{IsPageOf};
+ghost use Rattle.rb_copies.specs.Copies.{KeptHomes};
+ghost use Rattle.rb_cr.specs.Pages.{GoesOn};
 ghost use Rattle.rb_cr.specs.Rows.{IsNext, IsWanted};
 ghost use Rattle.rb_heap.specs.Cleaning.{cleaned_home};
 ghost use Rattle.rb_heap.specs.Homes.{home_of};
@@ -16,6 +17,7 @@ ghost use Rattle.rb_txntable.specs.declared.looks.Look.{Look};
 ghost use Rattle.law_read.specs.Reading.{History};
 
 use crate::pages::Page;
+use crate::plain::BlockCells;
 use crate::rows::Wanted;
 use crate::scratch::Snapshot;
 use crate::visible::all_told_visible;
@@ -48,8 +50,8 @@ pub fn next_told<S: Store>(
         ≡ home_of (block_of (S.blocks store.old) block))) }
     ensures kept { IfOk result (λ told. (told ≡ Some true → ⊥) → row.new ≡ row.old) }
     ensures same { IfErr result (λ fault. row.new ≡ row.old) }
-    ensures page { S.tells → result ≡ Ok (Some true) → IfSome page.new (IsPageOf
-        (block_of (S.blocks store.old) block) snapshot.now.scn (Some row.new.key) wanted.lo wanted.hi) }
+    ensures page { result ≡ Ok (Some true) → (kept : KeptHomes) → IfSome page.new (GoesOn S.Store store.new kept
+        block snapshot.now (Some row.new.key) wanted.lo wanted.hi) }
     ensures none_told { (result ≡ Ok (Some true) → ⊥) → page.new ≡ None }
     ensures loaded { OnOk result (S.loaded store.new ≡ Some block) }
     ensures logs { Logs S.Store store.old store.new [] (not (is_err result)) }
@@ -60,5 +62,6 @@ pub fn next_told<S: Store>(
     if !all_told_visible(bytes, snapshot.scn) {
         return Ok(None);
     }
-    Ok(Some(page.begin(bytes, wanted, row)))
+    let cells = BlockCells { block: bytes };
+    Ok(Some(page.begin(&cells, None, wanted, row)))
 }

@@ -2,7 +2,7 @@
 //! snapshot. `fetch` calls it.
 ghost use Rattle.std.specs.Prelude.{◌≡◌, ◌⊎◌, ◌<◌, ◌≤◌, ◌%◌, ◌*◌, ℕ, List, length};
 ghost use Rattle.std.specs.Prelude.{true, false, not};
-ghost use Rattle.std.specs.Prelude.{None, Some, Ok, IfOk, IfErr, if◌then◌else◌, ◌==◌, is_some};
+ghost use Rattle.std.specs.Prelude.{None, Some, Ok, IfOk, IfErr, IfSome, if◌then◌else◌, ◌==◌, is_some};
 ghost use Rattle.rb_base.specs.Groups.{Patch};
 ghost use Rattle.rb_base.specs.Logs.{Logs};
 ghost use Rattle.rb_base.specs.declared.ids.Xid.{Xid};
@@ -106,7 +106,7 @@ fn is_asked(cursor: &Cursor, blocks: u32, g: u32) -> bool
 /// Puts the next row of home `g` into `row`, where it has one. Where the block tells by itself that the snapshot sees
 /// each of its changes it is read as it stands: it has nothing to clean then. Else the home is cleaned first, unless
 /// the log is worn out, so that what is known of its transactions now is still known when their undo is gone; then it
-/// is rebuilt with the help of the homes that are kept.
+/// is rebuilt with the help of the homes that are kept. What either shows of the rows behind is known ahead then.
 fn next_in<S: Store>(
     store: &mut S,
     workspace: &mut Workspace,
@@ -144,7 +144,7 @@ fn next_in<S: Store>(
     ensures young { is_failed result ≡ false
         → (S.lsn store.new ≤ WORN) ⊎ (S.lsn store.new ≡ S.lsn store.old) }
     ensures ahead { IfOk result (λ found. found ≡ true
-        → IsAheadOf S.Store (behind_key row.new.key cursor.now) store.new ahead.new) }
+        → IsAheadOf S.Store (behind_key row.new.key cursor.now) copies.new.kept store.new ahead.new) }
     ensures nothing { (result ≡ Ok true → ⊥) → ahead.new.rows ≡ None }
 {
     ahead.page.clear();
@@ -174,32 +174,45 @@ fn next_in<S: Store>(
     if clean_step(store, block, workspace).is_err() {
         return Err(CrFault::Failed);
     }
-    next_at(store, block, &snapshot, wanted, scratch, copies, row)
+    ahead.home = g;
+    let page = &mut ahead.page;
+    next_at(store, block, &snapshot, wanted, scratch, copies, page, row)
 }
 
 /// Gives the next row of the home in which a cursor's last one was, from what is known ahead: false where the home has
 /// none behind it, and None where nothing is known of the home. The store isn't called but for the block that it loaded
 /// last.
-fn next_ahead<S: Store>(store: &S, ahead: &mut Ahead, home: u32, row: &mut Row) -> Option<bool>
-    requires loaded { is_some ahead.old.rows ≡ true → is_some (S.loaded store.now) ≡ true }
-    ensures given { S.tells → (m : Cursor) (h : State) (xids : List Xid) → IsAheadOf S.Store m store.now ahead.old
-        → Serves S.Store h xids m store.now → Begins h.shape.blocks home home m.last → home < h.shape.blocks
+fn next_ahead<S: Store>(
+    store: &S,
+    copies: &Copies,
+    ahead: &mut Ahead,
+    home: u32,
+    row: &mut Row,
+) -> Option<bool>
+    requires loaded { IfSome ahead.old.rows (λ page. page.kept ≡ None → is_some (S.loaded store.now) ≡ true) }
+    ensures given { S.tells → (m : Cursor) (h : State) (xids : List Xid)
+        → IsAheadOf S.Store m copies.now.kept store.now ahead.old → Serves S.Store h xids m store.now
+        → CopiesStand h xids (S.blocks store.now) copies.now.kept
+        → Begins h.shape.blocks home home m.last → home < h.shape.blocks
         → result ≡ Some true → HasNext h xids (S.blocks store.now) m home row.new }
-    ensures none { S.tells → (m : Cursor) (h : State) (xids : List Xid) → IsAheadOf S.Store m store.now ahead.old
-        → Serves S.Store h xids m store.now → Begins h.shape.blocks home home m.last → home < h.shape.blocks
+    ensures none { S.tells → (m : Cursor) (h : State) (xids : List Xid)
+        → IsAheadOf S.Store m copies.now.kept store.now ahead.old → Serves S.Store h xids m store.now
+        → CopiesStand h xids (S.blocks store.now) copies.now.kept
+        → Begins h.shape.blocks home home m.last → home < h.shape.blocks
         → result ≡ Some false → HasNone h xids (S.blocks store.now) m home }
-    ensures clean { S.tells → (m : Cursor) (h : State) (xids : List Xid) → IsAheadOf S.Store m store.now ahead.old
-        → Serves S.Store h xids m store.now → is_some result ≡ true
+    ensures clean { S.tells → (m : Cursor) (h : State) (xids : List Xid)
+        → IsAheadOf S.Store m copies.now.kept store.now ahead.old → Serves S.Store h xids m store.now
+        → home < h.shape.blocks → is_some result ≡ true → S.lsn store.now < WORN
         → IsClean h.shape (S.blocks store.now) (S.blocks store.now) (home_in h.shape m.table home) }
-    ensures ahead { (m : Cursor) → IsAheadOf S.Store m store.now ahead.old → result ≡ Some true
-        → IsAheadOf S.Store (behind_key row.new.key m) store.now ahead.new }
+    ensures ahead { (m : Cursor) → IsAheadOf S.Store m copies.now.kept store.now ahead.old → result ≡ Some true
+        → IsAheadOf S.Store (behind_key row.new.key m) copies.now.kept store.now ahead.new }
     ensures nothing { (result ≡ Some true → ⊥) → (ahead.new.rows ≡ None) × (row.new ≡ row.old) }
 {
     if ahead.home != home {
         ahead.page.clear();
         return None;
     }
-    next_on_page(store, &mut ahead.page, row)
+    next_on_page(store, copies, &mut ahead.page, row)
 }
 
 /// Puts the cursor's next row into `row`, where there is one. The homes are read from that of the last row on, up to
@@ -216,7 +229,7 @@ pub fn next_row<S: Store>(
 ) -> Result<Fetched, CrFault>
     requires going { S.failed store.old ≡ false }
     requires table { (1 ≤ cursor.now.table) × (cursor.now.table ≤ (S.shape_of store.old).tables) }
-    requires ahead { IsAheadOf S.Store cursor.now store.old ahead.old }
+    requires ahead { IsAheadOf S.Store cursor.now copies.old.kept store.old ahead.old }
     ensures found { S.tells → (h : State) (xids : List Xid) → Serves S.Store h xids cursor.now store.old
         → CopiesStand h xids (S.blocks store.old) copies.old.kept
         → Finds h xids (S.blocks store.old) cursor.now result row.new }
@@ -234,12 +247,12 @@ pub fn next_row<S: Store>(
     ensures young { is_failed result ≡ false
         → (S.lsn store.new ≤ WORN) ⊎ (S.lsn store.new ≡ S.lsn store.old) }
     ensures ahead { IfOk result (λ f. f ≡ Fetched.Row
-        → IsAheadOf S.Store (behind_key row.new.key cursor.now) store.new ahead.new) }
+        → IsAheadOf S.Store (behind_key row.new.key cursor.now) copies.new.kept store.new ahead.new) }
     ensures nothing { (result ≡ Ok Fetched.Row → ⊥) → ahead.new.rows ≡ None }
 {
     let blocks = store.shape().blocks;
     let first = first_home(cursor, blocks);
-    let from = match next_ahead(store, ahead, first, row) {
+    let from = match next_ahead(store, copies, ahead, first, row) {
         Some(true) => return Ok(Fetched::Row),
         Some(false) => first + 1,
         None => first,

@@ -1,7 +1,7 @@
 //! `step`: one line through the engine to the sink, and the writes that it has made ready. The run of a script does
 //! each line by `do_line`.
 ghost use Rattle.std.specs.Prelude.{◌≡◌, ◌++◌, ◌<◌, ◌≤◌, ℕ, false, [], None, Some};
-ghost use Rattle.std.specs.Prelude.{IfErr, IfOk, OnErr, OnOk};
+ghost use Rattle.std.specs.Prelude.{IfErr, IfOk, IfSome, OnErr, OnOk};
 ghost use Rattle.std.specs.Result.{is_err};
 ghost use Rattle.arrayvec.specs.ArrayVec.{array_vec_len};
 ghost use Rattle.rb_base.specs.Counts.{IsCounted, IsCountedAs, err_is};
@@ -17,7 +17,7 @@ ghost use Rattle.rb_model.specs.Lines.{call_of, caller, most_calls};
 ghost use Rattle.rb_model.specs.Names.{name_text};
 ghost use Rattle.rb_model.specs.Out.{Logged, CommandOut, LineOut, LineSaid};
 ghost use Rattle.rb_model.specs.Queue.{first_ready};
-ghost use Rattle.rb_script.specs.Commands.{asked_by, command_of};
+ghost use Rattle.rb_script.specs.Commands.{command_of};
 ghost use Rattle.rb_shell.specs.Steps.{Calls, IsSkipped, Lost, SaidAs};
 
 use crate::replies::{OWN_BYTES, Waiting, reply_of, send, tell};
@@ -179,30 +179,25 @@ fn make_calls<T: Store, K: Sink>(
     Ok(())
 }
 
-/// Does the command by which a session asks for something.
-fn run_request<T: Store, K: Sink>(
-    engine: &mut Engine<T>,
-    command: &Command<'_>,
+/// A command that asks for rows: of which session, of which cursor, and how many at most.
+#[derive(Clone, Copy)]
+struct RowsAsked<'a> {
     s: u16,
-    request: &Request<'_>,
-    waiting: &mut Waiting,
-    sink: &mut K,
-) -> Result<(), StepFault>
-    requires asked { command_of command.now ≡ asked_by s request.now }
-    requires empty { waiting.old.bytes.items ≡ [] }
-    ensures did { (m : Logged) → StandsAs T.Store engine.old m → m.state.stopped ≡ false
-        → Did (StandsAs T.Store) (IsSince T.Store) engine.old engine.new m (λ now. SaidAs
-        (CommandOut m engine_outside (asked_by s request.now)) (CallsBegun m engine_outside (asked_by s request.now))
-        now K.tells (K.held sink.old) (K.held sink.new) waiting.new.bytes.items result) }
-    ensures room { OnOk result (array_vec_len waiting.new.bytes ≤ OWN_BYTES) }
-    ensures same { SameStore T.Store engine.old.store engine.new.store }
-    ensures disk { IsCountedBeside (T.faults engine.old.store) (T.faults engine.new.store) (err_is is_disk result)
-        (err_is is_sink result) }
-    ensures sink { IsCountedAs (K.faults sink.old) (K.faults sink.new) (err_is is_sink result) }
+    name: &'a Name,
+    n: u32,
+}
+
+/// What a command asks for, where it asks for rows.
+fn rows_asked<'a>(command: &'a Command<'_>) -> Option<RowsAsked<'a>>
+    ensures { IfSome result (λ asked.
+        command_of command.now ≡ lines.FetchLine asked.s (name_text asked.name.now) asked.n) }
 {
+    let Command::Session { s, request } = command else {
+        return None;
+    };
     match request {
-        Request::Fetch { name, n } => fetch_rows(engine, s, name, *n, waiting, sink),
-        _ => make_calls(engine, command, waiting, sink),
+        Request::Fetch { name, n } => Some(RowsAsked { s: *s, name, n: *n }),
+        _ => None,
     }
 }
 
@@ -224,11 +219,9 @@ fn run_command<T: Store, K: Sink>(
         (err_is is_sink result) }
     ensures sink { IsCountedAs (K.faults sink.old) (K.faults sink.new) (err_is is_sink result) }
 {
-    match command {
-        Command::Session { s, request } => {
-            run_request(engine, command, *s, request, waiting, sink)
-        }
-        _ => make_calls(engine, command, waiting, sink),
+    match rows_asked(command) {
+        Some(RowsAsked { s, name, n }) => fetch_rows(engine, s, name, n, waiting, sink),
+        None => make_calls(engine, command, waiting, sink),
     }
 }
 

@@ -14,6 +14,7 @@ mod Owed
 mod Refused
 pub mod Somewhere
 mod StepBack
+pub mod Still
 mod Told
 mod WriterWords
 mod Writers

@@ -6,6 +6,7 @@ ghost use Rattle.rb_base.specs.Blocks.{block_of, table_blocks};
 ghost use Rattle.rb_base.specs.Groups.{Patch};
 ghost use Rattle.rb_base.specs.Logs.{Logs};
 ghost use Rattle.rb_base.specs.declared.ids.Xid.{Xid};
+ghost use Rattle.rb_cleanout.specs.Cleaned.{look_of};
 ghost use Rattle.rb_heap.specs.Cleaning.{cleaned_home};
 ghost use Rattle.rb_heap.specs.Homes.{home_of};
 ghost use Rattle.law_crash.specs.Holds.{Holds};
@@ -37,6 +38,10 @@ pub fn clean_step<S: Store>(
         → Holds S.Store h xids store.old → S.lsn store.old < WORN
         → OnOk result (home_of (block_of (S.blocks store.new) no)
         ≡ cleaned_home (env_of h.shape (S.blocks store.old)).look (home_of (block_of (S.blocks store.old) no))) }
+    // Nothing is left to clean there then, as the headers know it.
+    ensures still { S.tells → S.lsn store.new < WORN → OnOk result
+        (cleaned_home (look_of (S.shape_of store.new) (S.blocks store.new))
+        (home_of (block_of (S.blocks store.new) no)) ≡ home_of (block_of (S.blocks store.new) no)) }
     ensures young { OnOk result ((S.lsn store.new ≤ WORN) ⊎ (S.lsn store.new ≡ S.lsn store.old)) }
 {
     if store.logged() >= WORN {

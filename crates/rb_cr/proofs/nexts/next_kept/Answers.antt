@@ -8,5 +8,5 @@ returns-in-Some-clause-some c =
       c.in-Some.home.now,
       found_is kept kept c.args.key c.peek.result c.in-Some.home refl c.peek.ensures.copy c.in-Some.is,
       c.if-home-number.true,
-      record { given = c.next_plain.ensures.given; none = c.next_plain.ensures.none; kept = c.next_plain.ensures.kept },
+      record { given = c.begin.ensures.given; none = c.begin.ensures.none; kept = c.begin.ensures.kept },
     )

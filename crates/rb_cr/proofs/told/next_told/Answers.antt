@@ -3,10 +3,10 @@ use Rattle.rb_base.specs.declared.faults.Failed.{Failed}
 use Rattle.rb_base.specs.Blocks.{block_of}
 use Rattle.rb_cr.specs.Builds.{IsHomeRead}
 use Rattle.rb_cr.specs.Clauses.{answer_to}
-use Rattle.rb_cr.specs.Pages.{AreNext, IsPageOf, TellsAll}
+use Rattle.rb_cr.specs.Pages.{AreNext, TellsAll}
 use Rattle.rb_cr.specs.Rows.{block_rows}
-use Rattle.rb_cr.specs.declared.plain.KeyCell.{KeyCell}
-use Rattle.rb_cr.proofs.Shown.{next_same}
+use Rattle.rb_cr.proofs.GoingOn.{block_goes_on, firsts, seconds}
+use Rattle.rb_cr.proofs.Shown.{next_same, sixteen}
 use Rattle.rb_cr.proofs.Telling.{told_rows}
 use Rattle.rb_heap.specs.Homes.{home_of}
 use Rattle.law_read.specs.Reading.{History}
@@ -15,12 +15,6 @@ use Rattle.rb_cr.proofs.told.next_told.Goals as goal
 
 found_is : (a b : Bool) → ◌≡◌ {A = Result (Option Bool) Failed} (Ok (Some a)) (Ok (Some b)) → a ≡ b
 found_is a b same = cc
-
--- the rows of a page are those of a block that tells
-page_of : (block : List ℕ) (scn : ℕ) (after : Option ℕ) (lo hi : ℕ) → TellsAll block scn → (page : Option (List KeyCell))
-    → IfSome page (AreNext after lo hi (home_of block).cells) → IfSome page (IsPageOf block scn after lo hi)
-page_of block scn after lo hi told None next = tt
-page_of block scn after lo hi told (Some rows) next = record { told = told; next = next }
 
 module _ (g : Over) (c : goal.After-begin g) (tells : g.S.Store.tells) where
   -- the block that was read
@@ -49,8 +43,18 @@ pub returns-clause-none : goal.returns-clause-none
 returns-clause-none g c = λ tells h reading is k wanted. sym (shown g c tells h reading k) ∙ c.begin.ensures.none (found_is c.begin.result false is) k wanted
 
 pub returns-clause-page : goal.returns-clause-page
-returns-clause-page g c = λ tells is.
+returns-clause-page g c = λ is kept.
+    let s = g.S.Store in
     let w = c.args.wanted in
-    let next = c.begin.ensures.page (found_is c.begin.result true is) in
-    let page = subst (λ (l : List ℕ). IfSome c.begin.new.self (AreNext (Some c.begin.new.row.key) w.lo w.hi (home_of l).cells)) (read g c tells) next in
-    page_of _ c.args.snapshot.now.scn (Some c.begin.new.row.key) w.lo w.hi (told g c tells) c.begin.new.self page
+    let new = c.load.new.self in
+    let same : (tells : s.tells) → block_of (s.blocks new) c.args.block ≡ block_of (s.blocks c.args.store.now) c.args.block =
+    λ tells. ap (λ (z : List (List ℕ)). block_of z c.args.block) (c.in_ok-load.ensures.blocks tells) in
+    let rows = c.begin.ensures.page (found_is c.begin.result true is) in
+    block_goes_on s new kept c.args.block c.args.snapshot.now (Some c.begin.new.row.key) w.lo w.hi c.begin.new.self c.in_ok-load.ensures.loaded
+    (λ tells. subst (λ (l : List ℕ). TellsAll l c.args.snapshot.now.scn) (sym (same tells)) (told g c tells))
+    (firsts (λ left. left.kept ≡ None) (λ left. AreNext (Some c.begin.new.row.key) w.lo w.hi (home_of c.block-bytes.result.now).cells left.rows) c.begin.new.self rows)
+    (λ tells. subst (λ (l : List ℕ). IfSome c.begin.new.self (λ left. AreNext (Some c.begin.new.row.key) w.lo w.hi (home_of l).cells left.rows)) (read g c tells ∙ sym (same tells))
+    (seconds (λ left. left.kept ≡ None) (λ left. AreNext (Some c.begin.new.row.key) w.lo w.hi (home_of c.block-bytes.result.now).cells left.rows) c.begin.new.self rows))
+
+pub begin-requires-clause-few : goal.begin-requires-clause-few
+begin-requires-clause-few g c = sixteen c.block-bytes.result.now

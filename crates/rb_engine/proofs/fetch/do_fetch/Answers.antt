@@ -88,7 +88,8 @@ next_row-requires-clause-ahead g c =
     let name = name_text c.args.name.now in
     let table_is : c.memory.inside.sessions ≡ kept.sessions = ap (λ (k : Kept). k.sessions) c.memory.view_is in
     let is_named = ap (λ (l : List KeptSession). named name (kept_at l c.args.s).cursors) (sym table_is) ∙ (c.cursor_at-cursor.ensures (name_text c.args.name.now) c.in-Some.ensures.1) in
-    of_ahead g.T.Store kept c.args.store.now c.args.s name c.cursor_at-cursor.result c.args.ahead.now is_named c.requires.ahead
+    subst (λ (k : Kept). IsAheadOf g.T.Store c.cursor_at-cursor.result k.copies.kept c.args.store.now c.args.ahead.now) (sym c.memory.view_is)
+    (of_ahead g.T.Store kept c.args.store.now c.args.s name c.cursor_at-cursor.result c.args.ahead.now is_named c.requires.ahead)
 
 -- the table with the row's key as the cursor's last one
 moved_by : (g : Over) (c : goal.After-took_at g) → c.took_at.new.self ≡ with_kept c.args.memory.now.sessions c.args.s
@@ -131,7 +132,7 @@ returns-in-Ok-Row-clause-ahead g c =
     ahead_of g.T.Store now c.next_row.new.store c.args.s name (behind_key key m) (record { place = c.in-Some.place; home = c.ahead.inside.home; rows = c.ahead.inside.page })
     (subst (λ (l : List KeptSession). named name (kept_at l c.args.s).cursors ≡ Some (behind_key key m)) (sym (moved_by g c)) (named_moved kept.sessions c.args.s name key m in_table is_named))
     (subst (λ (l : List KeptSession). IsAt name (kept_at l c.args.s).cursors c.in-Some.place) (sym (moved_by g c)) (at_moved kept.sessions c.args.s name key c.in-Some.place in_table (subst (λ (l : List KeptSession). IsAt name (kept_at l c.args.s).cursors c.in-Some.place) table_is c.in-Some.ensures)))
-    (subst (IsAheadOf g.T.Store (behind_key key m) c.next_row.new.store) (sym c.ahead.view_is) (c.in-Ok-Row.ensures.ahead c.in-Ok-Row.field-0-is))
+    (subst (IsAheadOf g.T.Store (behind_key key m) c.next_row.new.copies.kept c.next_row.new.store) (sym c.ahead.view_is) (c.in-Ok-Row.ensures.ahead c.in-Ok-Row.field-0-is))
 
 pub returns-in-Ok-Row-clause-did : goal.returns-in-Ok-Row-clause-did
 returns-in-Ok-Row-clause-did g c = λ h st.

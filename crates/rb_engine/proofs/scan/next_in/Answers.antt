@@ -1,9 +1,12 @@
-use Rattle.std.proofs.Common.{Bool, IfErr, IfSome, Option, ◌≡◌, ◌<◌, ◌≤◌, ◌+◌, ◌-◌, ◌*◌, ◌%◌, ◌++◌, ℕ, List, [], length, true, false, not, Some, IfOk, Result, Ok, Err, ◌∙◌, refl, sym, ap, subst, arith, length-append}
+use Rattle.std.proofs.Common.{Bool, IfErr, IfSome, Option, ◌≡◌, ◌<◌, ◌≤◌, ◌+◌, ◌-◌, ◌*◌, ◌%◌, ◌++◌, ℕ, List, [], length, true, false, not, Some, IfOk, OnOk, Result, Ok, Err, ◌∙◌, refl, sym, ap, subst, arith, length-append}
 use Rattle.std.specs.Result.{is_err}
 use Rattle.rb_base.specs.Blocks.{block_of, table_blocks}
 use Rattle.rb_base.specs.Logs.{Laws, Logs, more_logs, no_logs}
 use Rattle.rb_base.specs.declared.ids.Xid.{Xid}
+use Rattle.rb_base.specs.declared.faults.Failed.{Failed}
 use Rattle.rb_base.specs.declared.shape.Shape.{Shape}
+use Rattle.rb_base.specs.declared.sizes.TheConstants.{WORN}
+use Rattle.rb_cleanout.specs.Cleaned.{look_of}
 use Rattle.rb_cr.specs.Faults.{is_failed}
 use Rattle.rb_cr.specs.declared.faults.CrFault.{CrFault}
 use Rattle.rb_heap.specs.Cleaning.{cleaned_home}
@@ -12,6 +15,7 @@ use Rattle.rb_txntable.specs.declared.looks.Look.{Look}
 use Rattle.law_blocks.specs.Standing.{env_of}
 use Rattle.rb_engine.specs.Cleaning.{HasCleaned, IsClean, IsHere, IsOnTheWay, Serves}
 use Rattle.rb_engine.specs.Scanning.{Begins, HasKey, HasNext, HasNone, IsBehind}
+use Rattle.rb_engine.proofs.AheadLemmas.{rows_go_on}
 use Rattle.rb_engine.proofs.CleanLemmas.{behind_same, cleans_loaded, env_same, in_table, loaded_cleans, next_same, none_cleaned, none_same, same_or_clean, serves_loaded, serves_on, step_cleaned, step_fails}
 use Rattle.rb_engine.proofs.DoesLemmas.{fault_survives}
 use Rattle.rb_engine.proofs.FetchLemmas.{found_next, home_read, is_behind}
@@ -234,3 +238,49 @@ returns-clause-copies g c = λ told h xids serves copies fine.
     let same : s.blocks c.next_at.new.store ≡ b = logs.blocks told (ap not fine) in
     subst (λ (z : List (List ℕ)). CopiesStand h xids z c.next_at.new.copies.kept) (sym same)
     (reads_keep h xids b m served.reader c.args.g way.there (s.shape_of c.clean_step.new.store) served.shape _ (at g c told h xids serves) c.args.copies.now.kept c.next_at.new.copies.kept (b_in g c told h xids serves) (here g c told h xids serves copies) (c.next_at.ensures.keeps told))
+
+-- what the block told of the rows behind this one
+pub returns-in-Ok-Some-clause-ahead : goal.returns-in-Ok-Some-clause-ahead
+returns-in-Ok-Some-clause-ahead g c = λ is.
+    let s = g.S.Store in
+    let m = c.args.cursor.now in
+    let old = s.blocks c.args.store.now in
+    let new = c.next_told.new.store in
+    let logs = c.in-Ok-Some.ensures.logs in
+    let shape = c.shape-blocks.ensures.shape ∙ sym logs.same_shape in
+    let block = (c.from.result - 1) * c.shape-blocks.result.blocks + c.args.g in
+    let at = block_at m.table c.from.result c.shape-blocks.result.blocks c.args.g (s.shape_of new) c.from.ensures (ap (λ (k : Shape). k.blocks) shape) in
+    let given : c.next_told.result ≡ Ok (Some true) = (let yes = is in cc) in
+    rows_go_on s m c.args.copies.now.kept new c.args.g c.next_told.new.row.key block at c.next_told.new.page
+    (λ told young.
+    let rest : (look : Xid → Look) → cleaned_home look (home_of (block_of old block)) ≡ home_of (block_of old block) =
+    subst (λ (o : Option Bool). IfSome o (λ found. (look : Xid → Look) → cleaned_home look (home_of (block_of old block)) ≡ home_of (block_of old block))) c.in-Ok-Some.field-0-is (c.in-Ok-Some.ensures.clean told) in
+    subst (λ (z : List (List ℕ)). cleaned_home (look_of (s.shape_of new) (s.blocks new)) (home_of (block_of z block)) ≡ home_of (block_of z block)) (sym (logs.blocks told refl)) (rest (look_of (s.shape_of new) (s.blocks new))))
+    (c.next_told.ensures.page given c.args.copies.now.kept)
+
+-- what the kept home has of the rows behind this one
+pub returns-clause-ahead : goal.returns-clause-ahead
+returns-clause-ahead g c = on_true c.next_at.result _ (λ given.
+    let s = g.S.Store in
+    let m = c.args.cursor.now in
+    let mid = c.clean_step.new.store in
+    let new = c.next_at.new.store in
+    let logs : Logs s mid new [] true = subst (λ (r : Result Bool CrFault). Logs s mid new [] (not (is_failed r))) given c.next_at.ensures.logs in
+    let shape = c.shape-blocks.ensures.shape ∙ sym c.in-Ok-None.ensures.logs.same_shape ∙ sym c.clean_step.ensures.logs.1.same_shape ∙ sym logs.same_shape in
+    let block = (c.from.result - 1) * c.shape-blocks.result.blocks + c.args.g in
+    let at = block_at m.table c.from.result c.shape-blocks.result.blocks c.args.g (s.shape_of new) c.from.ensures (ap (λ (k : Shape). k.blocks) shape) in
+    rows_go_on s m c.next_at.new.copies.kept new c.args.g c.next_at.new.row.key block at c.next_at.new.page
+    (λ told young.
+    let less : s.lsn mid < WORN = (let same : s.lsn new ≡ s.lsn mid + 0 = logs.number refl in omega (arith, same, young)) in
+    let still = on_fine c.clean_step.result (sym c.is_err.ensures.value ∙ c.if-is_err.false) (c.clean_step.ensures.still told less) in
+    subst (λ (z : List (List ℕ)). cleaned_home (look_of (s.shape_of new) z) (home_of (block_of z block)) ≡ home_of (block_of z block)) (sym (logs.blocks told refl))
+    (subst (λ (k : Shape). cleaned_home (look_of k (s.blocks mid)) (home_of (block_of (s.blocks mid) block)) ≡ home_of (block_of (s.blocks mid) block)) (sym logs.same_shape) still))
+    (c.next_at.ensures.page given))
+  where
+    on_true : (r : Result Bool CrFault) (P : Type 0) → (r ≡ Ok true → P) → IfOk r (λ found. found ≡ true → P)
+    on_true (Ok found) P then = λ yes. then (ap (λ (b : Bool). Ok b) yes)
+    on_true (Err fault) P then = tt
+
+    on_fine : {P : Type 0} (r : Result (Unit {0}) Failed) → is_err r ≡ false → OnOk r P → P
+    on_fine (Ok one) fine is = is
+    on_fine (Err fault) fine is = (let clash : true ≡ false = fine in absurd cc)

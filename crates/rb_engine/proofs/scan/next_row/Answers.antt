@@ -7,6 +7,7 @@ use Rattle.rb_cr.specs.Faults.{is_fault}
 use Rattle.rb_cr.specs.declared.faults.CrFault.{CrFault}
 use Rattle.rb_engine.specs.Cleaning.{Cleans, IsBefore, IsClean, IsHere, MustIn, ReadIn, Serves}
 use Rattle.rb_engine.specs.Scanning.{Begins, HasKey, HasNext, HasNone}
+use Rattle.rb_engine.proofs.AheadLemmas.{loaded_ahead}
 use Rattle.rb_engine.proofs.CleanLemmas.{behind_same, cleaned_as, env_mid, in_table, next_same, none_cleaned, none_same, read_by_end, read_in_table, read_no_more, read_up_to, same_or_clean, serves_mid, turn_fails, turned, young_on}
 use Rattle.rb_model.specs.State.{State}
 use Rattle.law_sessions.specs.Scan.{IsAskedKey}
@@ -109,7 +110,7 @@ loop-g-init g c =
                 let up = later.0 in
                 let is : first ≡ f = omega (arith, past, before, up) in
                 subst (HasNone h xids blocks m) is
-                (a.none told m h xids c.requires.ahead serves (begins h xids blocks m code same first e.within e.skips e.last) (there h xids blocks m code same first e.within e.skips e.last) later.1))
+                (a.none told m h xids c.requires.ahead serves copies (begins h xids blocks m code same first e.within e.skips e.last) (there h xids blocks m code same first e.within e.skips e.last) later.1))
                 (from_where g c)
           ];
       cleaned = λ told h xids serves copies.
@@ -118,10 +119,13 @@ loop-g-init g c =
           none_cleaned s told (laws_of g) h xids m (IsBefore h.shape m from) (IsBefore h.shape m from) from old old serves (no_logs s old c.requires.going)
           (λ b is spare. ⊎_elim
           (λ same_one. absurd (none_on_way h xids blocks m code same first e.within e.skips e.last b (subst (λ (n : ℕ). IsBefore h.shape m n b) same_one.0 is)))
-          (λ later. clean_before h xids blocks m code same first e.within e.skips e.last blocks (a.clean told m h xids c.requires.ahead serves (ap (λ (z : Option Bool). is_some z) later.1)) b (subst (λ (n : ℕ). IsBefore h.shape m n b) later.0 is))
+          (λ later. clean_before h xids blocks m code same first e.within e.skips e.last blocks (a.clean told m h xids c.requires.ahead serves (there h xids blocks m code same first e.within e.skips e.last) (ap (λ (z : Option Bool). is_some z) later.1) spare) b (subst (λ (n : ℕ). IsBefore h.shape m n b) later.0 is))
           (from_where g c));
       copies = λ told h xids serves copies. copies;
     }
+
+pub next_ahead-requires : goal.next_ahead-requires
+next_ahead-requires g c = record { loaded = loaded_ahead g.S.Store c.args.cursor.now c.args.copies.now.kept c.args.store.now c.args.ahead.now c.requires.ahead }
 
 -- a row that was ahead
 pub returns-in-Some-true-clause-found : goal.returns-in-Some-true-clause-found
@@ -137,7 +141,7 @@ returns-in-Some-true-clause-found g c = λ told h xids serves copies.
       first,
       in_table,
       none_before h xids blocks m code same first e.within e.skips e.last,
-      c.next_ahead.ensures.given told m h xids c.requires.ahead serves (begins h xids blocks m code same first e.within e.skips e.last) in_table is,
+      c.next_ahead.ensures.given told m h xids c.requires.ahead serves copies (begins h xids blocks m code same first e.within e.skips e.last) in_table is,
     )
 
 pub returns-in-Some-true-clause-cleans : goal.returns-in-Some-true-clause-cleans
@@ -151,9 +155,9 @@ returns-in-Some-true-clause-cleans g c = λ told h xids serves copies.
     let code = c.shape-blocks.result in
     let same = c.shape-blocks.ensures.shape ∙ serves.shape in
     let is = c.in-Some-true.is ∙ ap Some c.in-Some-true.field-0-test in
-    let next = c.next_ahead.ensures.given told m h xids c.requires.ahead serves (begins h xids blocks m code same first e.within e.skips e.last) (there h xids blocks m code same first e.within e.skips e.last) is in
+    let next = c.next_ahead.ensures.given told m h xids c.requires.ahead serves copies (begins h xids blocks m code same first e.within e.skips e.last) (there h xids blocks m code same first e.within e.skips e.last) is in
     none_cleaned s told (laws_of g) h xids m (ReadIn h xids blocks m) (ReadIn h xids blocks m) h.shape.blocks old old serves (no_logs s old c.requires.going)
-    (λ b read young. clean_before h xids blocks m code same first e.within e.skips e.last blocks (c.next_ahead.ensures.clean told m h xids c.requires.ahead serves (ap (λ (z : Option Bool). is_some z) is)) b
+    (λ b read young. clean_before h xids blocks m code same first e.within e.skips e.last blocks (c.next_ahead.ensures.clean told m h xids c.requires.ahead serves (there h xids blocks m code same first e.within e.skips e.last) (ap (λ (z : Option Bool). is_some z) is) young) b
     (read_no_more s told (laws_of g) h xids m first old c.next_ahead.new.row next b read))
 
 pub returns-in-Some-true-clause-logs : goal.returns-in-Some-true-clause-logs

@@ -1,5 +1,6 @@
 use Rattle.std.proofs.Common.{◌≡◌, ◌<◌, ◌+◌, ◌^◌, ◌∷◌, inl, ℕ, not, List, [], refl, sym, ◌∙◌, ap, subst, arith}
 use Rattle.std.proofs.lemmas.Result.{on_ok_weaker}
+use Rattle.std.specs.Prelude.{OnOk}
 use Rattle.std.specs.Result.{is_err}
 use Rattle.rb_base.proofs.Each.{all_so}
 use Rattle.rb_base.specs.Blocks.{after_group, block_of, shape_blocks, table_blocks}
@@ -14,6 +15,7 @@ use Rattle.law_crash.specs.Made.{CleanMade}
 use Rattle.rb_model.specs.State.{State}
 use Rattle.law_blocks.specs.Standing.{logged_of}
 use Rattle.rb_steps.proofs.Cleaned.{clean_made, home_after, home_is_clean}
+use Rattle.rb_steps.proofs.Still.{NothingLeft, still_after, still_as}
 use Rattle.rb_steps.proofs.clean.clean_step.Given.{Over}
 use Rattle.rb_steps.proofs.clean.clean_step.Goals as goal
 
@@ -34,6 +36,13 @@ returns-then-not-branch-clause-cleaned g c = λ told h xids shape holds young.
     let clean : cleaned_home (look_of (s.shape_of c.args.store.now) blocks) (home_of (block_of blocks c.args.no)) ≡ home_of (block_of blocks c.args.no) = plan.none told c.if-not-branch.true in
     ap (λ (l : List (List ℕ)). home_of (block_of l c.args.no)) (plan.logs.blocks told refl)
     ∙ home_is_clean h xids blocks holds.blocks c.args.no there (subst (λ (k : Shape). cleaned_home (look_of k blocks) (home_of (block_of blocks c.args.no)) ≡ home_of (block_of blocks c.args.no)) shape clean)
+
+-- so nothing is left to clean, by the headers as they are read
+nothing_left : (g : Over) (c : goal.Then-not-branch g) → g.S.Store.tells → NothingLeft (g.S.Store.shape_of c.plan_clean.new.store) (g.S.Store.blocks c.plan_clean.new.store) c.args.no
+nothing_left g c = λ told.
+    let s = g.S.Store in
+    let plan = c.in_ok-plan_clean.ensures in
+    still_as (s.shape_of c.args.store.now) (s.shape_of c.plan_clean.new.store) (s.blocks c.args.store.now) (s.blocks c.plan_clean.new.store) c.args.no plan.logs.same_shape (plan.logs.blocks told refl) (plan.none told c.if-not-branch.true)
 
 -- the group is given
 pub apply-requires-clause-within : goal.apply-requires-clause-within
@@ -88,3 +97,23 @@ returns-clause-cleaned g c = λ told h xids shape holds young.
     (λ now. ap (λ (l : List (List ℕ)). home_of (block_of l c.args.no)) (now ∙ ap (after_group (s.lsn mid + 1) group) (plan.logs.blocks told refl))
     ∙ home_after h xids (s.blocks old) holds.blocks c.args.no there group is.2 (of_shape (s.shape_of old) h (s.blocks old) c.args.no group shape plans) (s.lsn mid + 1))
     (c.apply.ensures.blocks told)
+
+-- and nothing is left to clean behind it, by the headers as they are read
+group_left : (g : Over) (c : goal.After-apply g) → g.S.Store.tells → OnOk c.apply.result (NothingLeft (g.S.Store.shape_of c.apply.new.self) (g.S.Store.blocks c.apply.new.self) c.args.no)
+group_left g c = λ told.
+    let s = g.S.Store in
+    let old = c.args.store.now in
+    let new = c.apply.new.self in
+    let group = c.plan_clean.new.workspace.group in
+    let number = s.lsn c.plan_clean.new.store + 1 in
+    let plan = c.in_ok-plan_clean.ensures in
+    on_ok_weaker c.apply.result
+    (λ now. still_as (s.shape_of old) (s.shape_of new) (after_group number group (s.blocks old)) (s.blocks new) c.args.no (c.apply.ensures.shape ∙ plan.logs.same_shape) (now ∙ ap (after_group number group) (plan.logs.blocks told refl))
+    (still_after (s.shape_of old) (s.blocks old) (plan.whole told) c.args.no c.requires.there group (plan.some c.if-not-branch.false).2 (plan.plans told c.if-not-branch.false) number))
+    (c.apply.ensures.blocks told)
+
+pub returns-then-not-branch-clause-still : goal.returns-then-not-branch-clause-still
+returns-then-not-branch-clause-still g c = λ told young. nothing_left g c told
+
+pub returns-clause-still : goal.returns-clause-still
+returns-clause-still g c = λ told young. group_left g c told
