@@ -106,7 +106,8 @@ fn is_asked(cursor: &Cursor, blocks: u32, g: u32) -> bool
 /// Puts the next row of home `g` into `row`, where it has one. Where the block tells by itself that the snapshot sees
 /// each of its changes it is read as it stands: it has nothing to clean then. Else the home is cleaned first, unless
 /// the log is worn out, so that what is known of its transactions now is still known when their undo is gone; then it
-/// is rebuilt with the help of the homes that are kept. What either shows of the rows behind is known ahead then.
+/// is rebuilt with the help of the homes that are kept. Of a block that tells, and of a kept home, the rows behind are
+/// known ahead then, where many are asked for.
 fn next_in<S: Store>(
     store: &mut S,
     workspace: &mut Workspace,
