@@ -6,14 +6,18 @@
         ann.ask("insert 1 7 window")        # the line `insert 1 1 7 window`: a session puts in its own number
         ann.ask("commit")                   # gives ["committed 1"]
 
-The program is that of this repository, or the one that RBSH names."""
+The program is that of this repository, or the one that RBSH names. `Connection` is for several programs that share one by
+examples/hub.py."""
 import contextlib
 import os
 import pathlib
+import socket
 import subprocess
 
 BUILT = pathlib.Path(__file__).resolve().parent.parent / "crates" / "rbsh" / "out" / "rbsh"
 PROGRAM = os.environ.get("RBSH") or str(BUILT)
+# The commands that name no session.
+ALONE = ("marks", "flush", "checkpoint")
 # The first words of all replies that refuse nothing.
 DONE = {"ok", "committed", "numbered", "flushed", "row", "end", "waits", "segment"}
 
@@ -77,6 +81,8 @@ class Session:
         """The session's replies to a line; raises Refused if the last one refuses it. Replies of other sessions that come
         with them are kept for these: a commit or rollback is followed by the writes that waited for it."""
         word, *rest = line.split(" ", 1)
+        if word in ALONE:
+            raise ValueError(f"'{word}' names no session: the store is asked for it, by store.ask({word!r})")
         own = []
         for reply in self.store.ask(" ".join([word, str(self.number), *rest])):
             number, words = reply.split(" ", 1)
@@ -99,10 +105,58 @@ class Session:
             raise Refused(line, replies)
         return replies
 
+    def rows(self, table, low, high, ordered=False):
+        """The rows of a range of keys, all of one moment, as pairs of key and value. They come by block and then by key, and
+        by key alone where they are to be ordered."""
+        found = rows_by(self.ask, table, low, high)
+        return sorted(found) if ordered else found
+
+
+class Connection:
+    """A connection to examples/hub.py, which puts in the session. Raises ConnectionError where the hub ends: then what wasn't
+    committed is gone, and a commit without its answer may be there or not."""
+
+    def __init__(self, path):
+        self.socket = socket.socket(socket.AF_UNIX)
+        self.socket.connect(path)
+        self.replies, self.waited = self.socket.makefile("r"), 0
+
+    def __enter__(self):
+        return self
+
+    def __exit__(self, *_):
+        self.close()
+
+    def close(self):
+        self.replies.close()
+        self.socket.close()
+
+    def read(self):
+        reply = self.replies.readline()
+        if not reply.endswith("\n"):
+            raise ConnectionError("the hub has ended")
+        return reply[:-1]
+
+    def ask(self, line):
+        """The replies to a line. A write that waits has its last reply alone, after the line that ends the others."""
+        self.socket.sendall(f"{line}\n".encode())
+        replies = list(iter(self.read, "."))
+        while replies[-1:] and replies[-1].startswith("waits "):
+            self.waited += 1
+            replies = [self.read()]
+        if replies[-1:] and replies[-1].split(" ")[0] not in DONE:
+            raise Refused(line, replies)
+        return replies
+
     def rows(self, table, low, high):
-        """The rows of a range of keys, all of one moment, as pairs of key and value."""
-        self.ask(f"open rows {table} {low} {high}")
-        try:
-            return [(int(row.split(" ")[1]), row.split(" ")[2]) for row in self.ask("fetch rows 1000000")[:-1]]
-        finally:
-            self.ask("close rows")
+        """As those of a session."""
+        return rows_by(self.ask, table, low, high)
+
+
+def rows_by(ask, table, low, high):
+    """The rows of a range, by a cursor."""
+    ask(f"open rows {table} {low} {high}")
+    try:
+        return [(int(row.split(" ")[1]), row.split(" ")[2]) for row in ask("fetch rows 1000000")[:-1]]
+    finally:
+        ask("close rows")

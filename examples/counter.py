@@ -8,55 +8,29 @@ addition is lost. A sixth process ends in the middle of its work, and the hub ro
 import os
 import pathlib
 import signal
-import socket
 import subprocess
 import sys
 import tempfile
 import time
 
-from client import Store, create
+from client import Connection, Store, create
 
 HUB = pathlib.Path(__file__).resolve().parent / "hub.py"
 PROCESSES, EACH = 5, 20
 
 
-class Connection:
-    """A connection to the hub."""
-
-    def __init__(self, path):
-        self.socket = socket.socket(socket.AF_UNIX)
-        self.socket.connect(path)
-        self.replies, self.waited = self.socket.makefile("r"), 0
-
-    def read(self):
-        reply = self.replies.readline()
-        if not reply:
-            raise EOFError("the hub has ended")
-        return reply.rstrip("\n")
-
-    def ask(self, line):
-        """The replies to a line. A write that waits has its last reply alone, after the line that ends the others."""
-        self.socket.sendall(f"{line}\n".encode())
-        replies = list(iter(self.read, "."))
-        while replies[-1].startswith("waits "):
-            self.waited += 1
-            replies = [self.read()]
-        return replies
-
-    def counter(self):
-        self.ask("open c 1 1 1")
-        row, _ = self.ask("fetch c 2")
-        self.ask("close c")
-        return int(row.split(" ")[2])
+def counter(hub):
+    (_, value), = hub.rows(1, 1, 1)
+    return int(value)
 
 
 def add(path):
     """What one of the processes does."""
     hub = Connection(path)
     for _ in range(EACH):
-        wanted = hub.ask("lock 1 1") == ["ok"] and hub.ask(f"update 1 1 {hub.counter() + 1}") == ["ok"]
-        if not wanted or not hub.ask("commit")[0].startswith("committed "):
-            raise SystemExit("refused")
+        hub.ask("lock 1 1")
+        hub.ask(f"update 1 1 {counter(hub) + 1}")
+        hub.ask("commit")
     # A line in one write, as all processes write to one output.
     print(f"  {EACH} additions, waited {hub.waited} times\n", end="", flush=True)
 
@@ -89,7 +63,7 @@ def shared(path):
     print(f"{PROCESSES + 1} processes:")
     words = [sys.executable, __file__, "--process", path]
     processes = [subprocess.Popen([*words, kind]) for kind in ["add"] * PROCESSES + ["give up"]]
-    return [process.wait() for process in processes], first.counter()
+    return [process.wait() for process in processes], counter(first)
 
 
 def main(file, path):

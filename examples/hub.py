@@ -3,28 +3,29 @@
 
     python3 examples/hub.py FILE SOCKET
 
-SOCKET is the path of a Unix socket that the hub makes. Each connection has a session of its own, sixteen at a time. It
+SOCKET is the path of a Unix socket that the hub makes. Each connection has a session of its own, and sixteen have one at a
+time: each further one gets its first reply once one of these has ended, in the order in which they came. A connection
 sends lines without the session's number, as `insert 1 7 window`. It gets the replies without it, and then a line `.`.
 After `waits H` and that `.` it gets the reply to the same write alone, once H has ended. That may be `waits` again.
 The hub sends lines in the order in which they come. When a connection ends, what it didn't commit is rolled back.
 Commits that come together share a flush, and each is safe when it is answered `committed N`. Rows that a cursor shows
 may be of one that isn't yet. If the hub closes a connection in place of that answer, the next run shows what there is.
-SIGTERM and Ctrl-C end the hub, which ends with the program's status. examples/counter.py has clients of it."""
+SIGTERM and Ctrl-C end the hub, which ends with the program's status. `Connection` of client.py is a client of it;
+counter.py and tickets.py use it."""
 import asyncio
 import contextlib
 import signal
 import sys
 from asyncio.subprocess import PIPE
 
-from client import PROGRAM
-
-# The commands that name no session.
-ALONE = ("marks", "flush", "checkpoint")
+from client import ALONE, PROGRAM
 
 
 class Hub:
     def __init__(self, run):
-        self.run, self.turn, self.free, self.writers = run, asyncio.Lock(), [str(n) for n in range(16, 0, -1)], {}
+        self.run, self.turn, self.free, self.writers = run, asyncio.Lock(), asyncio.Queue(), {}
+        for number in range(1, 17):
+            self.free.put_nowait(str(number))
         self.safe = 0  # Commits up to this number are durable.
 
     async def reply(self):
@@ -73,10 +74,10 @@ class Hub:
 
     async def serve(self, reader, writer):
         """One connection, to its end."""
-        if not self.free:
-            writer.write(b"no session\n")
+        try:
+            session, cursors = await self.free.get(), set()
+        except asyncio.CancelledError:
             return writer.close()
-        session, cursors = self.free.pop(), set()
         self.writers[session] = writer
         with contextlib.suppress(ConnectionError, ValueError, asyncio.CancelledError):
             while True:
@@ -99,7 +100,7 @@ class Hub:
         with contextlib.suppress(ConnectionError, asyncio.CancelledError):
             for line in [f"cancel {session}", f"rollback {session}", *(f"close {session} {name}" for name in cursors)]:
                 await self.ask(line)
-            self.free.append(session)
+            self.free.put_nowait(session)
 
 
 async def main(file, socket):

@@ -29,18 +29,20 @@ class Device:
 
     PAGE = 4096
 
-    def __init__(self, folder):
+    def __init__(self, folder, memory="2m", image="4M"):
         self.memory, self.files = folder / "memory", folder / "files"
         self.image, self.filler = self.memory / "image", self.memory / "filler"
+        self.sizes = memory, image
         self.undo = contextlib.ExitStack()
 
     def __enter__(self):
         with self.undo:
             self.memory.mkdir()
             self.files.mkdir()
-            system("mount", "-t", "tmpfs", "-o", "size=2m", "none", self.memory)
+            memory, image = self.sizes
+            system("mount", "-t", "tmpfs", "-o", f"size={memory}", "none", self.memory)
             self.undo.callback(system, "umount", "--lazy", self.memory)
-            system("truncate", "--size=4M", self.image)
+            system("truncate", f"--size={image}", self.image)
             # A journal would take what is refused for the end of the file system.
             system("mkfs.ext4", "-q", "-F", "-b", self.PAGE, "-O", "^has_journal", self.image)
             system("mount", "-o", "loop", self.image, self.files)
@@ -74,6 +76,15 @@ class Device:
     def has(self, at, count):
         """What is left of a file after a loss of power."""
         return self.image.read_bytes()[at : at + count]
+
+    def page_of(self, place):
+        """Where the page begins that has a place."""
+        return place - place % self.PAGE
+
+    def write_back(self):
+        """Has the system write what waits, as it does by itself some time after a write."""
+        # What it can't write isn't told here.
+        run(["sync", "-f", str(self.files)])
 
     def refuse(self, at):
         """From now on the device refuses the page; gives what the page has."""

@@ -11,6 +11,7 @@ import functools
 import os
 import pathlib
 import re
+import select
 import signal
 import socket
 import subprocess
@@ -83,7 +84,8 @@ with Store("store.rb") as store:
     s = {n: store.session(n) for n in range(1, 17)}
     print([s[1].ask("insert 1 1 a"), s[1].ask("insert 1 2 row"), s[1].ask("commit"), s[1].rows(1, 0, 9)])
     print([refused(s[1].ask, line) for line in ["insert 1 1 b", "nothing", "fetch c 1", "insert 1 3 " + "x" * 600]])
-    print([refused(store.ask, line) for line in ["", "# insert 1 1 1 a", "marks\\nmarks"]])
+    print([refused(ask, line) for ask, line in [(store.ask, ""), (store.ask, "# insert 1 1 1 a"), (store.ask, "marks\\nmarks"),
+                                                (s[1].ask, "flush")]])
     print([store.ask("bad"), store.ask("marks"), store.ask("checkpoint"), store.ask("bad line")])
     print([s[n].ask("update 1 1 v%d" % n) for n in range(1, 6)] + [s[n].wait() for n in range(1, 6)])
     print([s[1].ask("commit"), [s[n].wait() for n in range(2, 6)], refused(s[3].ask, "commit")])
@@ -113,7 +115,7 @@ def client_answers(place):
     wanted = [
         [["ok"], ["ok"], ["committed 1"], [(1, "a"), (2, "row")]],
         [["duplicate", []], ["bad line", []], ["no cursor", []], ["bad line", []]],
-        ["ValueError"] * 3,
+        ["ValueError"] * 4,
         [["bad line"], segments, ["ok"], ["bad line"]],
         [["ok"], *[["waits 1"]] * 4, *[None] * 5],
         [["committed 2"], ["ok", None, None, None], ["waiting", []]],
@@ -208,6 +210,10 @@ class Line:
     def next(self):
         return self.read.readline().rstrip("\n")
 
+    def has_answer(self, seconds=0.3):
+        """Whether one comes within so many seconds."""
+        return bool(select.select([self.socket], [], [], seconds)[0])
+
     def ask(self, line):
         self.send(line + "\n")
         return list(iter(self.next, "."))
@@ -288,16 +294,15 @@ def hub_dialogue(path):
     equal("who waits", [dan.ask("delete 1 1"), eve.ask("lock 1 1")], [["waits 1"], ["waits 1"]])
     dan.close()
     equal("its end", [ann.ask("commit"), eve.last(), eve.ask("commit")], [["committed 3"], "ok", ["committed 4"]])
-    # Sessions are used again, without cursors of before; the seventeenth finds none.
-    others = []
-    while len(others) < 20:
-        other = Line(path)
-        found = other.ask("open c 1 0 9") if len(others) < 14 else [other.next()]
-        if found == ["no session"]:
-            break
-        others.append(other)
-        equal("a new connection", found, ["ok"])
-    equal("connections", len(others), 14)
+    # Sessions are used again, without cursors of before. The seventeenth connection waits until one of these ends.
+    others = [Line(path) for _ in range(14)]
+    equal("new connections", [other.ask("open c 1 0 9") for other in others], [["ok"]] * 14)
+    late = Line(path)
+    late.send("open c 1 0 9\n")
+    equal("a session that isn't free yet", late.has_answer(), False)
+    others.pop(0).close()
+    equal("a session that is", [late.next(), late.next()], ["ok", "."])
+    others.append(late)
     equal("rows", others[-1].ask("fetch c 9"), ["row 1 b", "end"])
     equal("a long value", [eve.ask(f"insert 1 2 {'n' * 80}"), eve.ask(f"insert 1 3 {'n' * 81}"), eve.ask("insert 1 3 f")],
           [["ok"], ["value too long"], ["ok"]])
@@ -327,6 +332,15 @@ run.stdin.close()
 sys.exit(run.wait() % 256)
 """
 GROUP, ROUNDS = 8, 4
+
+
+def tickets_booked(place):
+    """tickets.py books seats for thirty clients over ten seconds and three kills: none is refused, and nothing is lost"""
+    told, lost, checked = said(place, "tickets.py", 10)
+    count, reports = map(int, re.fullmatch(r"(\d+) bookings by 30 clients, (\d+) reports, 3 kills", told).groups())
+    if count < 30 or not reports or not checked.startswith("checked: "):
+        raise Wrong(f"{told}: {checked}")
+    return f"{told}; {lost}"
 
 
 def hub_groups(place):
@@ -379,7 +393,7 @@ def readable(check):
 
 
 CHECKS = [readable(check) for check in (readme_lines, client_answers, seats_sold, book_reported, counter_counts, hub_routes,
-                                        hub_groups)]
+                                        hub_groups, tickets_booked)]
 
 
 class Place:

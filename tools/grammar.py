@@ -168,9 +168,19 @@ def session_put(line, session):
 
 
 def typed_fault(line, session):
-    """What is wrong with a line in which the session may be left out: one that is short of parts is taken to do so."""
+    """What is wrong with a line in which the session may be left out. One that is short of parts is taken to do so, and one
+    whose value would have a space then."""
     _, wanted, parts = parts_of(line)
-    return fault_of(session_put(line, session) if len(parts) < len(wanted) else line)
+    whole = session_put(line, session)
+    left_out = len(parts) < len(wanted) or has_spaced_value(whole) and not has_spaced_value(line)
+    return fault_of(whole if left_out else line)
+
+
+def has_spaced_value(line):
+    """Whether a line is a command but for a space in its value."""
+    word, wanted, parts = parts_of(line)
+    spaced = wanted[-1:] == ["V"] and len(parts) == len(wanted) and b" " in parts[-1]
+    return spaced and not fault_of(b" ".join([word, *parts[:-1], b"v"]))
 
 
 def fault_of(line):

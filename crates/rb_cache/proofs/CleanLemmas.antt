@@ -7,7 +7,7 @@ use Rattle.rb_disk.specs.declared.disk.Disk.{Ghosts}
 use Rattle.rb_layout.specs.declared.layout.Layout.{Layout}
 use Rattle.rb_base.specs.Moments.{joined, weaker}
 use Rattle.rb_base.proofs.Each.{all_so}
-use Rattle.rb_log.specs.GroupSlots.{FlushedSome, GroupsAre, LogState}
+use Rattle.rb_log.specs.GroupSlots.{FlushedOrNot, GroupsAre, LogState}
 use Rattle.rb_log.specs.Slots.{SameOutside, SameSlots}
 use Rattle.rb_twin.specs.Batches.{Image, with_batch}
 use Rattle.rb_twin.specs.Twins.{home, TwinSome}
@@ -96,7 +96,7 @@ module _ {D : Type 0} (d : Ghosts D) (l : Layout) (s : LogState) (old : D) (befo
     pub cleaned_begun : (mid : D) → IsCalm (d.image old) l (d.content old) → IsCalm (d.image mid) l (d.content mid) → AreClean l (d.content old) before → SameOutside l.log (d.content old) (d.content mid)
         → ((c : List ℕ) → d.image mid c → SameSlots l.log (d.content mid) c) → (Only (d.content old) (d.image old) → Only (d.content mid) (d.image mid))
         → (IsShutBehind l s (d.content old) → IsShutBehind l (flushed s) (d.content mid))
-        → ((groups : List (List Patch)) → LogHas l s (d.content old) groups → Leaves d old mid (FlushedSome (d.image old) l s.head groups s.pending))
+        → ((groups : List (List Patch)) → LogHas l s (d.content old) groups → Leaves d old mid (FlushedOrNot (d.image old) l s.head groups s.pending))
         → ((groups : List (List Patch)) → LogHas l s (d.content old) groups → GroupsAre l s.head (d.content mid) 0 (groups ++ s.pending)) → CleanedSoFar before mid
     cleaned_begun mid calm calm_mid clean out durable only_mid shut moments logged = record {
       seen_is = λ k. seen_over l (d.content old) (d.content mid) before k (λ none. home_behind l (d.content mid) (d.content old) k out.behind);

@@ -9,7 +9,7 @@ use Rattle.rb_layout.specs.Regions.{block_count, block_offset, file_length, log_
 use Rattle.rb_layout.specs.declared.layout.Head.{Head}
 use Rattle.rb_layout.specs.declared.layout.Layout.{Layout}
 use Rattle.rb_log.specs.GroupLaws.{same_group_log}
-use Rattle.rb_log.specs.GroupSlots.{FlushedSome, GroupsAre}
+use Rattle.rb_log.specs.GroupSlots.{FlushedOrNot, GroupsAre}
 use Rattle.rb_twin.specs.Batches.{Image, with_batch}
 use Rattle.rb_twin.specs.Twins.{home, twin_gate, TwinSome}
 use Rattle.rb_cache.specs.Evictions.{Flushed, TwinWrote}
@@ -25,7 +25,7 @@ module _ {D : Type 0} (d : Ghosts D)
   pub flushed_calm : (groups pending : List (List Patch)) (old new : D) → IsCalm (d.image old) l (d.content old)
       → Flushed d l head groups pending old new → IsCalm (d.image new) l (d.content new)
   flushed_calm groups pending old new calm f =
-      let some : (c : List ℕ) → d.image new c → FlushedSome (d.image old) l head groups pending c =
+      let some : (c : List ℕ) → d.image new c → FlushedOrNot (d.image old) l head groups pending c =
       λ c here. f.any_moment.each c (counts new (d.moment old) c f.any_moment.later here) in
       record {
         whole = f.outside.long ∙ calm.whole;
@@ -79,7 +79,7 @@ module _ {D : Type 0} (d : Ghosts D)
 
     pub batch_leaves : Leaves d old new Mine
     batch_leaves = joined d.moment d.image_since old mid new Mine
-        (weaker d.moment d.image_since old mid (FlushedSome (d.image old) l head groups pending) Mine
+        (weaker d.moment d.image_since old mid (FlushedOrNot (d.image old) l head groups pending) Mine
         (λ c some. flush_on_disk (d.image old) l head (d.content old) calm groups pending may c some) f.any_moment)
         (weaker d.moment d.image_since mid new (TwinSome (d.image mid) l batch (d.content mid)) Mine
         (λ c some. on_disk_later (d.image old) (d.image mid) l head groups pending (d.content old) (groups ++ pending) []
@@ -126,7 +126,7 @@ module _ {D : Type 0} (d : Ghosts D)
 
     pub clean_begun : (mid : D) → IsCalm (d.image old) l (d.content old) → Flushed d l head groups pending old mid → Cleaning mid
     clean_begun mid calm f = record {
-      leaves = weaker d.moment d.image_since old mid (FlushedSome (d.image old) l head groups pending)
+      leaves = weaker d.moment d.image_since old mid (FlushedOrNot (d.image old) l head groups pending)
           (OnDisk (d.image old) l head groups pending (d.content old) may)
           (λ c some. flush_on_disk (d.image old) l head (d.content old) calm groups pending may c some) f.any_moment;
       later = record {

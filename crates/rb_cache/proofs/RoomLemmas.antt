@@ -9,7 +9,7 @@ use Rattle.rb_disk.specs.declared.disk.Disk.{Ghosts}
 use Rattle.rb_layout.specs.Regions.{block_offset, file_length, log_offset, twin_offset}
 use Rattle.rb_layout.specs.declared.layout.Layout.{Layout}
 use Rattle.rb_log.specs.GroupLaws.{same_group_log}
-use Rattle.rb_log.specs.GroupSlots.{FlushedSome, GroupsAre, LogState}
+use Rattle.rb_log.specs.GroupSlots.{FlushedOrNot, GroupsAre, LogState}
 use Rattle.rb_log.specs.Slots.{gate_of, OutsideFrom, SameOutside, SameSlots}
 use Rattle.rb_twin.specs.Batches.{Image, with_batch}
 use Rattle.rb_twin.specs.TwinLaws.{kept_shut}
@@ -54,8 +54,8 @@ module _ {D : Type 0} (d : Ghosts D)
   }
 
   -- a flush
-  pub flush_leaves : (mid : D) → ((groups : List (List Patch)) → LogHas l s (d.content old) groups → Leaves d old mid (FlushedSome (d.image old) l s.head groups s.pending)) → Leaving d l s old mid May
-  flush_leaves mid moments = λ groups has. weaker d.moment d.image_since old mid (FlushedSome (d.image old) l s.head groups s.pending) (OnDisk (d.image old) l s.head groups s.pending (d.content old) May)
+  pub flush_leaves : (mid : D) → ((groups : List (List Patch)) → LogHas l s (d.content old) groups → Leaves d old mid (FlushedOrNot (d.image old) l s.head groups s.pending)) → Leaving d l s old mid May
+  flush_leaves mid moments = λ groups has. weaker d.moment d.image_since old mid (FlushedOrNot (d.image old) l s.head groups s.pending) (OnDisk (d.image old) l s.head groups s.pending (d.content old) May)
       (λ c some. flush_on_disk (d.image old) l s.head (d.content old) calm groups s.pending May c some) (moments groups has)
 
   module _ (mid : D) (images : Leaves d old mid (OutsideFrom l.log (d.image old))) (out : SameOutside l.log (d.content old) (d.content mid)) (durable : (c : List ℕ) → d.image mid c → SameSlots l.log (d.content mid) c) where
@@ -86,7 +86,7 @@ module _ {D : Type 0} (d : Ghosts D)
     }
 
     -- and a batch
-    module _ (moments : (groups : List (List Patch)) → LogHas l s (d.content old) groups → Leaves d old mid (FlushedSome (d.image old) l s.head groups s.pending))
+    module _ (moments : (groups : List (List Patch)) → LogHas l s (d.content old) groups → Leaves d old mid (FlushedOrNot (d.image old) l s.head groups s.pending))
         (logged : (groups : List (List Patch)) → LogHas l s (d.content old) groups → GroupsAre l s.head (d.content mid) 0 (groups ++ s.pending)) (batch : List Image) (are : AreSeen before batch) (new : D) where
       comes : (which : ℕ) → (with_batch batch which (home l (d.content mid) which) ≡ home l (d.content mid) which) ⊎ May which (with_batch batch which (home l (d.content mid) which))
       comes which = batch_seen l (d.content old) before batch which (home l (d.content mid) which) are
@@ -134,9 +134,9 @@ module _ {D : Type 0} (d : Ghosts D)
 
 -- What a flush says of a log of this layout.
 module _ {D : Type 0} (d : Ghosts D) (s : LogState) (l : Layout) (same : s.layout ≡ l) (old mid : D) where
-  pub moments_at : ((groups : List (List Patch)) → length groups ≡ s.used → GroupsAre s.layout s.head (d.content old) 0 groups → Leaves d old mid (FlushedSome (d.image old) s.layout s.head groups s.pending))
-      → (groups : List (List Patch)) → LogHas l s (d.content old) groups → Leaves d old mid (FlushedSome (d.image old) l s.head groups s.pending)
-  moments_at f groups has = subst (λ (m : Layout). Leaves d old mid (FlushedSome (d.image old) m s.head groups s.pending)) same
+  pub moments_at : ((groups : List (List Patch)) → length groups ≡ s.used → GroupsAre s.layout s.head (d.content old) 0 groups → Leaves d old mid (FlushedOrNot (d.image old) s.layout s.head groups s.pending))
+      → (groups : List (List Patch)) → LogHas l s (d.content old) groups → Leaves d old mid (FlushedOrNot (d.image old) l s.head groups s.pending)
+  moments_at f groups has = subst (λ (m : Layout). Leaves d old mid (FlushedOrNot (d.image old) m s.head groups s.pending)) same
       (f groups has.count (subst (λ (m : Layout). GroupsAre m s.head (d.content old) 0 groups) (sym same) has.log))
 
   pub logged_at : ((groups : List (List Patch)) → length groups ≡ s.used → GroupsAre s.layout s.head (d.content old) 0 groups → GroupsAre s.layout s.head (d.content mid) 0 (groups ++ s.pending))

@@ -7,7 +7,7 @@ use Rattle.rb_layout.specs.Regions.{block_count, log_offset}
 use Rattle.rb_layout.specs.declared.layout.Head.{Head}
 use Rattle.rb_layout.specs.declared.layout.Layout.{Layout}
 use Rattle.rb_log.specs.GroupLaws.{same_group_log}
-use Rattle.rb_log.specs.GroupSlots.{FlushedSome, GroupsAre}
+use Rattle.rb_log.specs.GroupSlots.{FlushedOrNot, GroupsAre}
 use Rattle.rb_twin.specs.Batches.{Image, with_batch}
 use Rattle.rb_twin.specs.TwinLaws.{kept_shut}
 use Rattle.rb_twin.specs.Twins.{home, kept, twin_gate, TwinSome}
@@ -17,18 +17,26 @@ use Rattle.rb_cache.proofs.Parts.{front_less, gate_behind, home_behind, home_par
 module _ (image : List ℕ → Type 0) (l : Layout) (head : Head) (file : List ℕ) (calm : IsCalm image l file) where
   -- a moment of a flush
   pub flush_on_disk : (groups pending : List (List Patch)) (may : ℕ → List ℕ → Type 0) (c : List ℕ)
-      → FlushedSome image l head groups pending c → OnDisk image l head groups pending file may c
+      → FlushedOrNot image l head groups pending c → OnDisk image l head groups pending file may c
   flush_on_disk groups pending may c some =
       let d = some.outside.0 in
       let here = some.outside.1 in
       let out = some.outside.2 in
       let shut : twin_gate l c ≢ 1 = λ is. calm.shut d here (sym (gate_behind l c d out.behind) ∙ is) in
+      let came : (count : ℕ) × (count ≤ length pending) × GroupsAre l head c 0 (groups ++ take count pending) = ⊎_elim
+      (λ none. (0, omega arith, subst (GroupsAre l head c 0) (sym (append-nil groups)) none))
+      (λ all. (
+        length pending,
+        omega arith,
+        subst (λ (p : List (List Patch)). GroupsAre l head c 0 (groups ++ p))
+            (sym (take_all (length pending) pending (omega arith))) all,
+      )) some.log in
       record {
         whole = out.long ∙ (calm.slots d here).long ∙ calm.whole;
         front = (d, here, out.before);
-        count = some.count;
-        few = some.few;
-        log = some.log;
+        count = came.0;
+        few = came.1;
+        log = came.2;
         twin = λ gate. absurd (shut gate);
         homes = λ which lt. inl (kept_shut l c which shut ∙ home_behind l c d which out.behind
             ∙ home_part l file d which lt (calm.blocks d here));

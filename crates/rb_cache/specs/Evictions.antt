@@ -8,7 +8,7 @@ use Rattle.rb_disk.specs.declared.disk.Disk.{Ghosts}
 use Rattle.rb_layout.specs.Regions.{file_length, twin_offset}
 use Rattle.rb_layout.specs.declared.layout.Head.{Head}
 use Rattle.rb_layout.specs.declared.layout.Layout.{Layout}
-use Rattle.rb_log.specs.GroupSlots.{FlushedSome, GroupsAre}
+use Rattle.rb_log.specs.GroupSlots.{FlushedOrNot, GroupsAre}
 use Rattle.rb_log.specs.Slots.{SameOutside, SameSlots}
 use Rattle.rb_twin.specs.Batches.{Image, with_batch}
 use Rattle.rb_twin.specs.Twins.{home, twin_gate, TwinSome}
@@ -16,7 +16,7 @@ use Rattle.rb_twin.specs.Twins.{home, twin_gate, TwinSome}
 -- a flush of a log that answered Ok, over a log that had these groups
 pub record Flushed {D : Type 0} (d : Ghosts D) (l : Layout) (head : Head) (groups pending : List (List Patch))
     (old new : D) : Type 0 where
-  pub any_moment : Leaves d old new (FlushedSome (d.image old) l head groups pending)
+  pub any_moment : Leaves d old new (FlushedOrNot (d.image old) l head groups pending)
   pub log : GroupsAre l head (d.content new) 0 (groups ++ pending)
   pub outside : SameOutside l.log (d.content old) (d.content new)
   pub durable : (c : List ℕ) → d.image new c → SameSlots l.log (d.content new) c

@@ -1,13 +1,13 @@
 -- Calls of a raw file that leave it as it was, and what is written over itself.
-use Rattle.std.proofs.Common.{◌≡◌, ℕ, ◌+◌, ◌≤◌, List, length, take, refl, sym, subst, ap, ◌∙◌, inl, ⊎_elim, true, arith, rules}
+use Rattle.std.proofs.Common.{◌≡◌, ℕ, ◌+◌, ◌≤◌, List, length, take, refl, sym, subst, ap, ◌∙◌, true, arith, rules}
 use Rattle.std.specs.Prelude.{Result, Ok, Err, is_ok, OnOk, OnErr}
 use Rattle.std.proofs.lemmas.Bool.{false≢true}
 use Rattle.std.proofs.lemmas.List.{same_lists, places, take_all}
 use Rattle.rb_base.specs.Fields.{part, overwritten}
 use Rattle.rb_base.specs.Moments.{NoMore, Passes, no_call, one_call, more_calls}
 use Rattle.rb_filedisk.specs.Rests.{Stays, Rests}
-use Rattle.rb_filedisk.specs.RawModel.{AreAll, Began, SamePlaces, Wrote, with_range_of}
-use Rattle.rb_filedisk.specs.declared.raw.RawFile.{Ghosts}
+use Rattle.rb_rawfile.specs.RawModel.{Began, Wrote}
+use Rattle.rb_rawfile.specs.declared.raw.RawFile.{Ghosts}
 
 -- a part of a file, or a first part of that, written where it was read
 pub over_itself : (file : List ℕ) (at count first : ℕ) → at + count ≤ length file → first ≤ count → overwritten file at (take first (part file at count)) ≡ file
@@ -42,40 +42,31 @@ module _ {F : Type 0} (f : Ghosts F) where
   pub rests_none : (file : F) → Rests f file file
   rests_none file = record {
     stays = stays_none file;
-    places = record { no_more = λ p now. now; no_fewer = λ p was. was };
+    places = λ p now. now;
     losses = λ p now. now;
   }
 
   pub rests_more : (old mid new : F) → Rests f old mid → Rests f mid new → Rests f old new
   rests_more old mid new first second = record {
     stays = stays_more old mid new first.stays second.stays;
-    places = record {
-      no_more = λ p now. first.places.no_more p (second.places.no_more p now);
-      no_fewer = λ p was. second.places.no_fewer p (first.places.no_fewer p was);
-    };
+    places = λ p now. first.places p (second.places p now);
     losses = λ p now. first.losses p (second.losses p now);
   }
 
   pub one_rest : (old new : F) → f.content new ≡ f.content old → NoMore (f.image old) (f.image new)
       → Passes (f.moment old) (f.moment new) (f.image_since old) (f.image_since new) (f.image new)
-      → SamePlaces (f.unsettled old) (f.unsettled new) → NoMore (f.lost old) (f.lost new) → Rests f old new
+      → NoMore (f.unsettled old) (f.unsettled new) → NoMore (f.lost old) (f.lost new) → Rests f old new
   one_rest old new same fewer time places losses = record { stays = one_stay old new same fewer time; places = places; losses = losses }
 
   -- bytes that were read are written again
   pub written_again : (old new : F) (at count : ℕ) (bytes : List ℕ) → at + count ≤ length (f.content old) → bytes ≡ part (f.content old) at count
-      → length bytes ≡ count → AreAll at count (f.unsettled old)
-      → Began at bytes (f.content old) (f.content new) (f.lost old) (f.lost new)
-      → (AreAll at (length bytes) (f.unsettled old) → NoMore (f.image old) (f.image new))
+      → length bytes ≡ count → Began at bytes (f.content old) (f.content new) (f.lost old) (f.lost new)
+      → (bytes ≡ part (f.content old) at (length bytes) → NoMore (f.image old) (f.image new))
       → Passes (f.moment old) (f.moment new) (f.image_since old) (f.image_since new) (f.image new)
-      → SamePlaces (with_range_of at (length bytes) (f.unsettled old)) (f.unsettled new) → Rests f old new
-  written_again old new at count bytes within read long all begun again time places =
-      let same_count : AreAll at (length bytes) (f.unsettled old) = subst (λ (n : ℕ). AreAll at n (f.unsettled old)) (sym long) all in
+      → (bytes ≡ part (f.content old) at (length bytes) → NoMore (f.unsettled old) (f.unsettled new)) → Rests f old new
+  written_again old new at count bytes within read long begun same time places =
+      let is : bytes ≡ part (f.content old) at (length bytes) = read ∙ ap (λ (n : ℕ). part (f.content old) at n) (sym long) in
       one_rest old new
       (begun.2.read ∙ ap (λ (bs : List ℕ). overwritten (f.content old) at (take begun.0 bs)) read
       ∙ over_itself (f.content old) at count begun.0 within (omega (arith, begun.1, long)))
-      (again same_count) time
-      (record {
-        no_more = λ p now. ⊎_elim (λ was. was) (λ of. same_count p of) (places.no_more p now);
-        no_fewer = λ p was. places.no_fewer p (inl was);
-      })
-      begun.2.no_more
+      (same is) time (places is) begun.2.no_more

@@ -1,4 +1,5 @@
 pub mod ByteLemmas
+pub mod FaultLemmas
 pub mod KeepLemmas
 pub mod RangeLemmas
 pub mod SyncLemmas

@@ -1,5 +1,5 @@
 -- What a sync and a write leave of what is known of a file.
-use Rattle.std.proofs.Common.{◌≡◌, ℕ, ◌+◌, ◌-◌, ◌<◌, ◌≤◌, ◌^◌, max, Bool, true, List, ◌∷◌, length, take, drop, sym, subst, ap, ◌∙◌, inl, inr, ⊎_elim, arith, Option}
+use Rattle.std.proofs.Common.{◌≡◌, ℕ, ◌+◌, ◌-◌, ◌<◌, ◌≤◌, ◌^◌, max, Bool, List, ◌∷◌, length, take, drop, sym, subst, ap, ◌∙◌, inl, inr, ⊎_elim, arith, Option}
 use Rattle.std.specs.Prelude.{All}
 use Rattle.std.proofs.lemmas.List.{drop-drop, length-take, places}
 use Rattle.std.proofs.lemmas.Bool.{cases_lt}
@@ -7,10 +7,11 @@ use Rattle.rb_base.specs.Fields.{overwritten}
 use Rattle.rb_disk.specs.DiskModel.{Torn, Follows}
 use Rattle.rb_filedisk.specs.Keeps.{IsInStep}
 use Rattle.rb_disk.specs.Writes.{done_is_torn}
-use Rattle.rb_filedisk.specs.RawModel.{Began, IsOf, SamePlaces, with_range_of}
-use Rattle.rb_filedisk.specs.Unsynced.{Has, HasOne, written}
+use Rattle.rb_base.specs.Moments.{NoMore}
+use Rattle.rb_rawfile.specs.RawModel.{Began, IsOf, with_range_of}
+use Rattle.rb_filedisk.specs.Unsynced.{HasOne, written}
 use Rattle.rb_filedisk.specs.declared.unsynced.Range.{Range}
-use Rattle.rb_filedisk.specs.declared.raw.RawFile.{Ghosts}
+use Rattle.rb_rawfile.specs.declared.raw.RawFile.{Ghosts}
 
 -- a range torn within a longer one
 torn_wider : (at first count : ℕ) (old new : List ℕ) → first ≤ count → Torn at first old new → Torn at count old new
@@ -36,16 +37,15 @@ grown file bytes at begins = grind (arith, places)
 
 module _ {F : Type 0} (f : Ghosts F) where
   -- a write leaves the file in step with the ranges that have its own
-  pub in_step_written : (old new : F) (synced : Option ℕ) (was now : List Range) (exact exact_now stale : Bool) (at : ℕ) (bytes : List ℕ)
-      → IsInStep f old synced was exact stale → at ≤ length (f.content old) → length (f.content old) < 2 ^ 63 → length (f.content new) < 2 ^ 63
+  pub in_step_written : (old new : F) (synced : Option ℕ) (was now : List Range) (stale : Bool) (at : ℕ) (bytes : List ℕ)
+      → IsInStep f old synced was stale → at ≤ length (f.content old) → length (f.content old) < 2 ^ 63 → length (f.content new) < 2 ^ 63
       → f.image old (f.content old) → Began at bytes (f.content old) (f.content new) (f.lost old) (f.lost new)
       → Follows (Torn at (length bytes)) (f.image old) (f.image new)
-      → SamePlaces (with_range_of at (length bytes) (f.unsettled old)) (f.unsettled new)
+      → NoMore (with_range_of at (length bytes) (f.unsettled old)) (f.unsettled new)
       → ((byte : ℕ) → HasOne (written at (length bytes) ∷ was) byte → HasOne now byte)
-      → (exact_now ≡ true → (exact ≡ true) × ((byte : ℕ) → HasOne now byte → HasOne (written at (length bytes) ∷ was) byte))
       → ((count : ℕ) → All (λ range. range.end ≤ count) now → ((written at (length bytes)).end ≤ count) × All (λ range. range.end ≤ count) was)
-      → IsInStep f new synced now exact_now stale
-  in_step_written old new synced was now exact exact_now stale at bytes step begins few few_now reads begun follows places every no_other within =
+      → IsInStep f new synced now stale
+  in_step_written old new synced was now stale at bytes step begins few few_now reads begun follows places every within =
       let torn = began_is_torn at bytes (f.content old) (f.content new) (f.lost old) (f.lost new) begins begun in
       let long : length (f.content new) ≡ max (length (f.content old)) (at + length (take begun.0 bytes)) =
       ap length begun.2.read ∙ grown (f.content old) (take begun.0 bytes) at begins in
@@ -57,11 +57,7 @@ module _ {F : Type 0} (f : Ghosts F) where
             ⊎_elim (λ (inside : place < length (f.content old)). every place (inr (step.remembered place inside before)))
             (λ (past : length (f.content old) ≤ place). of (omega (arith, begins, past)) (omega (arith, past, lt, torn.no_longer)))
             (cases_lt place (length (f.content old))))
-            (λ (in_range : IsOf at (length bytes) place). of in_range.0 in_range.1) (places.no_more place here);
-        exactly = λ is place has.
-            let both = no_other is in
-            ⊎_elim (λ (in_range : Has (written at (length bytes)) place). places.no_fewer place (inr (in_range.0, omega (arith, in_range.1))))
-            (λ (before : HasOne was place). places.no_fewer place (inl (step.exactly both.0 place before))) (both.1 place has);
+            (λ (in_range : IsOf at (length bytes) place). of in_range.0 in_range.1) (places place here);
         whole = λ fine place lt gone.
             ⊎_elim (λ (inside : place < length (f.content old)). step.whole fine place inside (begun.2.no_more place gone))
             (λ (past : length (f.content old) ≤ place). begun.2.found place (omega (arith, begins, past), omega (arith, past, lt, long)) gone)

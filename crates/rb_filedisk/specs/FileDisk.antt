@@ -1,11 +1,11 @@
 -- What a file disk is seen as.
 use Rattle.std.specs.Prelude.{ℕ, List, Option}
-use Rattle.rb_filedisk.specs.declared.cause.Cause.{Cause}
+use Rattle.rb_rawfile.specs.declared.cause.Cause.{Cause}
 use Rattle.rb_filedisk.specs.declared.synced.SyncedFile.{SyncedFile}
 use Rattle.rb_filedisk.specs.declared.system.SystemFile.{SystemFile}
 use Rattle.rb_filedisk.specs.declared.unsynced.Unsynced.{Unsynced}
 
--- a raw file with what was written to it since the last sync, and the faults of its calls
+-- a raw file with what may have been written to it since the last sync, and the faults of its calls
 pub record FileState (F : Type 0) : Type 0 where
   pub file : SyncedFile F
   pub faults : ℕ

@@ -1,9 +1,9 @@
 -- What is known of a raw file between two calls of its disk.
-use Rattle.std.specs.Prelude.{◌≡◌, ℕ, ◌<◌, ◌≤◌, Bool, true, false, List, length, Option, Some, All}
+use Rattle.std.specs.Prelude.{◌≡◌, ℕ, ◌<◌, ◌≤◌, Bool, false, List, length, Option, Some, All}
 use Rattle.rb_disk.specs.DiskModel.{Only}
-use Rattle.rb_filedisk.specs.RawModel.{HasLength}
+use Rattle.rb_rawfile.specs.RawModel.{HasLength}
 use Rattle.rb_filedisk.specs.Unsynced.{HasOne, ranges_of}
-use Rattle.rb_filedisk.specs.declared.raw.RawFile.{Ghosts}
+use Rattle.rb_rawfile.specs.declared.raw.RawFile.{Ghosts}
 use Rattle.rb_filedisk.specs.declared.synced.SyncedFile.{SyncedFile}
 use Rattle.rb_filedisk.specs.declared.unsynced.Range.{Range}
 
@@ -17,13 +17,11 @@ pub record IsSynced {F : Type 0} (f : Ghosts F) (content : List ℕ) (new : F) :
   pub settled : HasNone content (f.unsettled new)
   pub none_lost : HasNone content (f.lost new)
 
--- What is known of a file by the ranges that were written since the last sync that succeeded.
-pub record IsInStep {F : Type 0} (f : Ghosts F) (file : F) (synced : Option ℕ) (ranges : List Range) (exact stale
-    : Bool) : Type 0 where
+-- What is known of a file by the ranges that may have been written since the last sync that succeeded.
+pub record IsInStep {F : Type 0} (f : Ghosts F) (file : F) (synced : Option ℕ) (ranges : List Range) (stale : Bool)
+    : Type 0 where
   -- each place that is unsettled is in one of them
   pub remembered : (place : ℕ) → place < length (f.content file) → f.unsettled file place → HasOne ranges place
-  -- and no other is, unless one grew over a gap
-  pub exactly : exact ≡ true → (place : ℕ) → HasOne ranges place → f.unsettled file place
   -- no place is lost, unless a sync failed
   pub whole : stale ≡ false → HasNone (f.content file) (f.lost file)
   -- where none ends past the length of the last sync of all, each image has that length
@@ -32,11 +30,10 @@ pub record IsInStep {F : Type 0} (f : Ghosts F) (file : F) (synced : Option ℕ)
 
 -- the same of a file that knows its ranges
 abbrev pub IsKept : {F : Type 0} → Ghosts F → SyncedFile F → Type 0
-IsKept f s = IsInStep f s.file s.synced (ranges_of s.unsynced) s.exact s.stale
+IsKept f s = IsInStep f s.file s.synced (ranges_of s.unsynced) s.stale
 
 -- only the raw file has changed
 pub record IsSameBesides {F : Type 0} (old new : SyncedFile F) : Type 0 where
   pub synced : new.synced ≡ old.synced
   pub unsynced : new.unsynced ≡ old.unsynced
-  pub exact : new.exact ≡ old.exact
   pub stale : new.stale ≡ old.stale

@@ -1,8 +1,7 @@
 -- What calls of a raw file leave as it was.
 use Rattle.std.specs.Prelude.{◌≡◌}
 use Rattle.rb_base.specs.Moments.{LeavesNoMore, NoMore}
-use Rattle.rb_filedisk.specs.RawModel.{SamePlaces}
-use Rattle.rb_filedisk.specs.declared.raw.RawFile.{Ghosts}
+use Rattle.rb_rawfile.specs.declared.raw.RawFile.{Ghosts}
 
 -- The file reads as before, and a crash at some moment since may have left nothing but what it might have left at the
 -- start.
@@ -13,5 +12,5 @@ pub record Stays {F : Type 0} (f : Ghosts F) (old new : F) : Type 0 where
 -- The same, and no place is unsettled or lost that wasn't.
 pub record Rests {F : Type 0} (f : Ghosts F) (old new : F) : Type 0 where
   pub stays : Stays f old new
-  pub places : SamePlaces (f.unsettled old) (f.unsettled new)
+  pub places : NoMore (f.unsettled old) (f.unsettled new)
   pub losses : NoMore (f.lost old) (f.lost new)

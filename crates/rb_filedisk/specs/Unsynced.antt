@@ -1,4 +1,4 @@
--- The bytes written since a sync, as ranges in the order of their writes.
+-- The bytes that may have been written since a sync, as ranges in the order of their writes.
 use Rattle.std.specs.Prelude.{◌≡◌, ℕ, ◌+◌, ◌-◌, ◌^◌, ◌<◌, ◌≤◌, min, max, nat_le, ◌==◌}
 use Rattle.std.specs.Prelude.{List, [], ◌∷◌, length}
 use Rattle.std.specs.Prelude.{Bool, cond, ◌&&◌, ◌||◌, ◌⊎◌}
@@ -39,20 +39,21 @@ with_range full new (first ∷ second ∷ rest) = first ∷ with_range full new 
 abbrev pub IsNothing : Unsynced → Type 0
 IsNothing unsynced = ranges_of unsynced ≡ []
 
+-- Every byte may have been: one range has them all.
+abbrev pub IsWhole : Unsynced → Type 0
+IsWhole unsynced = ranges_of unsynced ≡ record { start = 0; end = 2 ^ 64 - 1 } ∷ []
+
 -- Of so many bytes from an offset on, written after those of before: up to 128 ranges are remembered.
 abbrev pub IsWith : (at count : ℕ) (before now : Unsynced) → Type 0
 IsWith at count before now =
     ranges_of now ≡ with_range (length (ranges_of before) == 128) (written at count) (ranges_of before)
 
--- Every byte of them is remembered with those of before, and where there is room for one more range no other byte is.
+-- every byte of them is remembered with those of before
 abbrev pub RemembersAll : (at count : ℕ) (before now : Unsynced) → Type 0
 RemembersAll at count before now =
     (byte : ℕ) → HasOne (written at count ∷ ranges_of before) byte → HasOne (ranges_of now) byte
 
--- no other byte is
-abbrev pub RemembersNoOtherAt : (at count : ℕ) (before now : Unsynced) → Type 0
-RemembersNoOtherAt at count before now =
-    (byte : ℕ) → HasOne (ranges_of now) byte → HasOne (written at count ∷ ranges_of before) byte
-
+-- where there is room for one more range, no other byte is
 abbrev pub RemembersNoOther : (at count : ℕ) (before now : Unsynced) → Type 0
-RemembersNoOther at count before now = length (ranges_of before) < 128 → RemembersNoOtherAt at count before now
+RemembersNoOther at count before now = length (ranges_of before) < 128
+    → (byte : ℕ) → HasOne (ranges_of now) byte → HasOne (written at count ∷ ranges_of before) byte

@@ -6,14 +6,16 @@ ghost use Rattle.rb_base.specs.Fields.{part, overwritten};
 ghost use Rattle.rb_base.specs.Moments.{NoMore, Passes};
 ghost use Rattle.rb_disk.specs.DiskModel.{Torn, Follows, Only};
 ghost use Rattle.rb_filedisk.specs.FileDisk.{FileState, cause_of, faults_of, file_of, path_of, unsynced_of};
-ghost use Rattle.rb_filedisk.specs.Unsynced.{IsNothing, IsWith, RemembersAll, RemembersNoOther};
+ghost use Rattle.rb_filedisk.specs.Faults.{FailedOnce};
+ghost use Rattle.rb_filedisk.specs.Keeps.{HasNone};
+ghost use Rattle.rb_filedisk.specs.Unsynced.{IsNothing, IsWhole, IsWith, RemembersAll, RemembersNoOther};
 
-use crate::raw::RawFile;
+use crate::Hold;
 use crate::synced::SyncedFile;
 use crate::system::SystemFile;
-use crate::{Cause, Hold};
 use rb_base::Failed;
 use rb_disk::Disk;
+use rb_rawfile::{Cause, RawFile};
 use std::fs::Files;
 use std::marker::Model;
 use std::os::unix::fs::FileExt;
@@ -47,26 +49,34 @@ where
         ensures path { path_of (file_of result) ≡ path.now }
         ensures faults { faults_of result ≡ 0 }
         ensures no_cause { cause_of result ≡ None }
-        ensures unsynced { IsNothing (unsynced_of result) }
+        ensures unsynced { IsWhole (unsynced_of result) }
     {
         FileDisk::over(SystemFile::at(runtime, path))
     }
 }
 
 impl<F: RawFile> FileDisk<F> {
-    /// A disk over a file, none of whose places is unsettled.
+    /// A disk over a file, none of whose places is lost. What was written to it before may still be unsettled, so the
+    /// first sync that fails writes the whole file again.
     pub fn over(file: F) -> Self
-        requires { F.tells → (place : ℕ) → F.unsettled file place → ⊥ }
+        requires { F.tells → (place : ℕ) → F.lost file place → ⊥ }
         ensures file { file_of result ≡ file }
         ensures faults { faults_of result ≡ 0 }
         ensures no_cause { cause_of result ≡ None }
-        ensures unsynced { IsNothing (unsynced_of result) }
+        ensures unsynced { IsWhole (unsynced_of result) }
     {
         FileDisk {
             file: SyncedFile::over(file),
             faults: 0,
             cause: None,
         }
+    }
+
+    /// The file, as it is.
+    pub fn into_file(self) -> F
+        ensures { result ≡ file_of self }
+    {
+        self.file.into_file()
     }
 
     /// Why the last call that failed did so; None where none has.
@@ -188,6 +198,9 @@ impl<F: RawFile> Disk for FileDisk<F> {
         ensures no_cause { OnOk result (cause_of self.new ≡ cause_of self.old) }
         ensures forgotten { OnOk result (IsNothing (unsynced_of self.new)) }
         ensures kept { OnErr result (unsynced_of self.new ≡ unsynced_of self.old) }
+        ensures mended { F.tells → OnErr result
+            (FailedOnce (F.faults (file_of self.old)) (F.faults (file_of self.new))
+            → HasNone (F.content (file_of self.old)) (F.lost (file_of self.new))) }
     {
         let answer = self.file.sync();
         self.count_fault(answer)

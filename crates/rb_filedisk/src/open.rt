@@ -2,7 +2,8 @@
 ghost use Rattle.std.specs.Prelude.{◌≡◌};
 ghost use Rattle.rb_filedisk.specs.Folders.{folder_name};
 
-use crate::{Cause, Hold};
+use crate::Hold;
+use rb_rawfile::Cause;
 use std::fs::{Files, OpenFile, OpenOptions};
 use std::io;
 use std::path::Path;

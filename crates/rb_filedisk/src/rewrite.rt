@@ -1,23 +1,26 @@
 //! How bytes that a failed sync may have lost are written again. `Unsynced` calls it for each of its ranges.
-ghost use Rattle.std.specs.Prelude.{◌≡◌, ◌+◌, ◌<◌, ◌≤◌, ℕ, IsTrue, OnOk, length};
+ghost use Rattle.std.specs.Prelude.{◌≡◌, ◌+◌, ◌-◌, ◌^◌, ◌<◌, ◌≤◌, ℕ, min, length};
+ghost use Rattle.std.specs.Prelude.{IsTrue, OnOk, OnErr};
+ghost use Rattle.rb_rawfile.specs.RawModel.{IsOf};
+ghost use Rattle.rb_filedisk.specs.Faults.{InPieces, RoseBy, Tells, lost_of};
 ghost use Rattle.rb_filedisk.specs.Rests.{Rests};
-ghost use Rattle.rb_filedisk.specs.RawModel.{AreAll, IsOf};
 ghost use Rattle.rb_filedisk.specs.Unsynced.{Has};
 
-use crate::Cause;
-use crate::raw::RawFile;
 use crate::unsynced::Range;
+use rb_rawfile::{Cause, RawFile};
 
 // How many bytes are read and written again at a time.
 const PIECE: usize = 4096;
 
 /// Reads the bytes of a range, as far as a file of this length goes, and writes them again. Whether all of them were.
 pub fn write_range_again<F: RawFile>(range: Range, len: u64, file: &mut F) -> bool
-    requires long { F.tells → len ≡ length (F.content file.old) }
-    requires unsettled { F.tells → (place : ℕ) → Has range place → F.unsettled file.old place }
+    requires { F.tells → len ≡ length (F.content file.old) }
     ensures rests { F.tells → Rests F.RawFile file.old file.new }
-    ensures found { F.tells → IsTrue result → (place : ℕ) → Has range place → place < len
-        → F.lost file.new place → ⊥ }
+    ensures found { F.tells → IsTrue result → (place : ℕ)
+        → lost_of (Has range) len (F.lost file.new) place → ⊥ }
+    ensures counted { F.tells → Tells (F.faults file.old) (F.faults file.new) result }
+    ensures others { F.tells → (n : ℕ) → RoseBy n (F.faults file.old) (F.faults file.new)
+        → InPieces n (lost_of (Has range) len (F.lost file.new)) }
 {
     let end = range.end.min(len);
     let mut piece = [0; PIECE];
@@ -33,11 +36,12 @@ pub fn write_range_again<F: RawFile>(range: Range, len: u64, file: &mut F) -> bo
 
 // Reads as many bytes as the piece has, and writes them again.
 fn write_piece_again<F: RawFile>(file: &mut F, at: u64, piece: &mut [u8]) -> Result<(), Cause>
-    requires within { F.tells → at + length piece.old ≤ length (F.content file.old) }
-    requires unsettled { F.tells → AreAll at (length piece.old) (F.unsettled file.old) }
+    requires { F.tells → at + length piece.old ≤ length (F.content file.old) }
     ensures rests { F.tells → Rests F.RawFile file.old file.new }
     ensures found { F.tells → OnOk result ((place : ℕ) → IsOf at (length piece.old) place
         → F.lost file.new place → ⊥) }
+    ensures faulted { F.tells → OnErr result (F.faults file.new ≡ min (F.faults file.old + 1) (2 ^ 64 - 1)) }
+    ensures no_fault { F.tells → OnOk result (F.faults file.new ≡ F.faults file.old) }
 {
     file.read_at(at, piece)?;
     file.write_at(at, piece)

@@ -1,25 +1,23 @@
 //! `SyncedFile`: a raw file that knows what a sync of it has to write. `FileDisk` counts its faults.
-ghost use Rattle.std.specs.Prelude.{◌≡◌, ◌+◌, ◌<◌, ◌≤◌, ℕ, Some, None, true, length};
-ghost use Rattle.std.specs.Prelude.{IsTrue, IfOk, OnOk, OnErr};
+ghost use Rattle.std.specs.Prelude.{◌≡◌, ◌+◌, ◌<◌, ◌≤◌, ℕ, Some, None, false, length};
+ghost use Rattle.std.specs.Prelude.{IsTrue, IfOk, OnOk, OnErr, is_ok};
 ghost use Rattle.rb_base.specs.Fields.{part, overwritten};
-ghost use Rattle.rb_base.specs.Moments.{Passes};
+ghost use Rattle.rb_base.specs.Moments.{NoMore, Passes};
 ghost use Rattle.rb_disk.specs.DiskModel.{Torn, Follows, Only};
-ghost use Rattle.rb_filedisk.specs.RawModel.{HasLength, SamePlaces};
+ghost use Rattle.rb_rawfile.specs.RawModel.{HasLength};
+ghost use Rattle.rb_filedisk.specs.Faults.{FailedOnce, Tells};
 
-use crate::Cause;
-use crate::raw::RawFile;
 use crate::unsynced::Unsynced;
+use rb_rawfile::{Cause, RawFile};
 use std::io;
 
-/// A raw file, with what was written to it since the last sync that succeeded.
+/// A raw file, with what may have been written to it since the last sync that succeeded.
 #[derive(Drop)]
 pub struct SyncedFile<F: RawFile> {
     file: F,
     // The length at the last sync of all that succeeded, if there was one.
     synced: Option<u64>,
     unsynced: Unsynced,
-    // Whether no other byte is among them.
-    exact: bool,
     // Whether a sync failed, and not all of them could be written again.
     stale: bool,
 }
@@ -27,22 +25,29 @@ pub struct SyncedFile<F: RawFile> {
 impl<F: RawFile> SyncedFile<F> {
     ghost use Rattle.rb_filedisk.specs.Keeps.{HasNone, IsKept, IsSameBesides, IsSynced};
     ghost use Rattle.rb_filedisk.specs.Rests.{Rests, Stays};
-    ghost use Rattle.rb_filedisk.specs.Unsynced.{ranges_of, HasOne, IsNothing, IsWith};
+    ghost use Rattle.rb_filedisk.specs.Unsynced.{ranges_of, HasOne, IsNothing, IsWhole, IsWith};
 
-    /// A file, none of whose places is unsettled.
+    /// A file, none of whose places is lost. Any of them may be unsettled.
     pub fn over(file: F) -> Self
-        requires { F.tells → (place : ℕ) → F.unsettled file place → ⊥ }
+        requires { F.tells → (place : ℕ) → F.lost file place → ⊥ }
         ensures in_step { F.tells → IsKept F.RawFile result }
         ensures file { result.file ≡ file }
-        ensures unsynced { IsNothing result.unsynced }
+        ensures unsynced { IsWhole result.unsynced }
+        ensures fresh { result.stale ≡ false }
     {
         SyncedFile {
             file,
             synced: None,
-            unsynced: Unsynced::nothing(),
-            exact: true,
+            unsynced: Unsynced::whole(),
             stale: false,
         }
+    }
+
+    /// The file, as it is.
+    pub fn into_file(self) -> F
+        ensures { result ≡ self.file }
+    {
+        self.file
     }
 
     /// How many bytes there are.
@@ -81,8 +86,7 @@ impl<F: RawFile> SyncedFile<F> {
             (F.image_since self.old.file) (F.image_since self.new.file) (F.image self.new.file) }
         ensures remembered { IsWith at (length bytes.now) self.old.unsynced self.new.unsynced }
     {
-        let alone = self.unsynced.add(at, bytes.len());
-        self.exact = self.exact && alone;
+        self.unsynced.add(at, bytes.len());
         self.file.write_at(at, bytes)
     }
 
@@ -94,12 +98,15 @@ impl<F: RawFile> SyncedFile<F> {
         ensures stays { F.tells → Stays F.RawFile self.old.file self.new.file }
         ensures durable { F.tells → OnOk result (Only (F.content self.old.file) (F.image self.new.file)) }
         ensures forgotten { OnOk result (IsNothing self.new.unsynced) }
+        ensures fresh { OnOk result (self.new.stale ≡ false) }
         ensures kept { OnErr result (self.new.unsynced ≡ self.old.unsynced) }
+        ensures mended { F.tells → OnErr result
+            (FailedOnce (F.faults self.old.file) (F.faults self.new.file)
+            → HasNone (F.content self.old.file) (F.lost self.new.file)) }
     {
         let answer = self.flush();
         if answer.is_ok() {
             self.unsynced.forget();
-            self.exact = true;
             self.stale = false;
         } else {
             self.stale = !self.write_again();
@@ -111,13 +118,13 @@ impl<F: RawFile> SyncedFile<F> {
     fn flush(&mut self) -> Result<(), Cause>
         requires { F.tells → IsKept F.RawFile self.old }
         ensures stays { F.tells → Stays F.RawFile self.old.file self.new.file }
-        ensures places { F.tells → OnErr result (SamePlaces (F.unsettled self.old.file) (F.unsettled self.new.file)) }
+        ensures places { F.tells → OnErr result (NoMore (F.unsettled self.old.file) (F.unsettled self.new.file)) }
         ensures synced { F.tells → OnOk result (IsSynced F.RawFile (F.content self.old.file) self.new.file) }
         ensures long { F.tells → OnOk result ((count : ℕ) → self.new.synced ≡ Some count
             → HasLength count (F.image self.new.file)) }
         ensures length { OnErr result (self.new.synced ≡ self.old.synced) }
         ensures unsynced { self.new.unsynced ≡ self.old.unsynced }
-        ensures exact { self.new.exact ≡ self.old.exact }
+        ensures counted { F.tells → Tells (F.faults self.old.file) (F.faults self.new.file) (is_ok result) }
     {
         self.recover()?;
         if let Some(len) = self.synced
@@ -134,9 +141,11 @@ impl<F: RawFile> SyncedFile<F> {
     // Writes again what a sync may have lost, if it wasn't yet.
     fn recover(&mut self) -> Result<(), Cause>
         requires { F.tells → IsKept F.RawFile self.old }
+        ensures idle { self.old.stale ≡ false → self.new ≡ self.old }
         ensures rests { F.tells → Rests F.RawFile self.old.file self.new.file }
         ensures whole { F.tells → OnOk result (HasNone (F.content self.old.file) (F.lost self.new.file)) }
         ensures same { IsSameBesides self.old self.new }
+        ensures counted { F.tells → Tells (F.faults self.old.file) (F.faults self.new.file) (is_ok result) }
     {
         if self.stale && !self.write_again() {
             return Err(Cause::System(io::Error::from(io::ErrorKind::Other)));
@@ -144,15 +153,17 @@ impl<F: RawFile> SyncedFile<F> {
         Ok(())
     }
 
-    // Whether all that was written is written again. Over a gap nothing is: a crash might leave any byte there.
+    // Whether all that is remembered is written again.
     fn write_again(&mut self) -> bool
-        requires { F.tells → self.old.exact ≡ true → (place : ℕ) → HasOne (ranges_of self.old.unsynced) place
-            → F.unsettled self.old.file place }
         ensures rests { F.tells → Rests F.RawFile self.old.file self.new.file }
         ensures found { F.tells → IsTrue result → (place : ℕ) → HasOne (ranges_of self.old.unsynced) place
             → place < length (F.content self.old.file) → F.lost self.new.file place → ⊥ }
         ensures same { IsSameBesides self.old self.new }
+        ensures counted { F.tells → Tells (F.faults self.old.file) (F.faults self.new.file) result }
     {
-        self.exact && self.unsynced.write_again(&mut self.file)
+        let Ok(len) = self.file.len() else {
+            return false;
+        };
+        self.unsynced.write_again(len, &mut self.file)
     }
 }

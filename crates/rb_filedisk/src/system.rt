@@ -1,9 +1,9 @@
 //! `SystemFile`: the file of a path as a raw file. It is all that is trusted of what a file gives and keeps.
 ghost use Rattle.std.specs.Prelude.{◌≡◌, ℕ, List, []};
 
+use crate::Hold;
 use crate::open::{open_held, sync_folder};
-use crate::raw::RawFile;
-use crate::{Cause, Hold};
+use rb_rawfile::{Cause, RawFile};
 use std::fs::{Files, OpenFile};
 use std::io;
 use std::os::unix::fs::FileExt;
@@ -66,6 +66,8 @@ where
     ghost unsettled = { λ file place. ⊥ };
 
     ghost lost = { λ file place. ⊥ };
+
+    ghost faults = { λ file. 0 };
 
     ghost loses_unsettled = { λ file place told gone. absurd told };
 

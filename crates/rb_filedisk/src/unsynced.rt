@@ -1,10 +1,11 @@
-//! `Unsynced`: what was written since the last sync. `FileDisk` writes it again where a sync fails.
+//! `Unsynced`: what may have been written since the last sync. `FileDisk` writes it again where a sync fails.
 ghost use Rattle.std.specs.Prelude.{◌≡◌, ◌<◌, ◌≤◌, ◌↔◌, ℕ, IsTrue, All, length};
+ghost use Rattle.rb_filedisk.specs.Faults.{InPieces, RoseBy, Tells, lost_of};
 ghost use Rattle.rb_filedisk.specs.Unsynced.{written, touches, joined};
 
-use crate::raw::RawFile;
 use crate::rewrite::write_range_again;
 use arrayvec::ArrayVec;
+use rb_rawfile::RawFile;
 
 /// The bytes from an offset up to another one.
 #[derive(Clone, Copy, Default)]
@@ -44,7 +45,7 @@ impl Range {
     }
 }
 
-/// The bytes written, as up to 128 ranges in the order of their writes.
+/// The bytes that may be unsettled, as up to 128 ranges in the order of their writes.
 #[derive(Drop)]
 pub struct Unsynced {
     ranges: ArrayVec<Range, 128>,
@@ -52,40 +53,37 @@ pub struct Unsynced {
 
 impl Unsynced {
     ghost use Rattle.rb_filedisk.specs.Rests.{Rests};
-    ghost use Rattle.rb_filedisk.specs.Unsynced.{ranges_of, HasOne, IsNothing, IsWith, RemembersNoOtherAt};
+    ghost use Rattle.rb_filedisk.specs.Unsynced.{ranges_of, HasOne, IsNothing, IsWhole, IsWith};
 
-    /// No byte.
-    pub fn nothing() -> Self
-        ensures { IsNothing result }
+    /// Every byte that a file may have.
+    pub fn whole() -> Self
+        ensures { IsWhole result }
     {
-        Unsynced {
-            ranges: ArrayVec::new(),
-        }
+        let mut ranges = ArrayVec::new();
+        ranges.push(Range {
+            start: 0,
+            end: u64::MAX,
+        });
+        Unsynced { ranges }
     }
 
-    /// Takes in so many bytes from an offset on. Whether it took in no other.
-    pub fn add(&mut self, at: u64, count: usize) -> bool
-        ensures with { IsWith at count self.old self.new }
-        ensures exact { IsTrue result → RemembersNoOtherAt at count self.old self.new }
+    /// Takes in so many bytes from an offset on.
+    pub fn add(&mut self, at: u64, count: usize)
+        ensures { IsWith at count self.old self.new }
     {
         let written = Range::of_write(at, count);
         let full = self.ranges.is_full();
         match self.ranges.pop() {
-            // Where there is no room the last range grows over the gap, so that no byte is forgotten. It doesn't occur
-            // in this form: a flush has at most 128 runs, and of each only the gate lies apart.
+            // Where there is no room the last range grows over the gap, so that no byte is forgotten. The gap is
+            // written again with it: bytes that are there already change nothing.
             Some(last) if full || last.touches(written) => {
                 self.ranges.push(last.span_with(written));
-                last.touches(written)
             }
             Some(last) => {
                 self.ranges.push(last);
                 self.ranges.push(written);
-                true
             }
-            None => {
-                self.ranges.push(written);
-                true
-            }
+            None => self.ranges.push(written),
         }
     }
 
@@ -103,18 +101,18 @@ impl Unsynced {
         self.ranges.as_slice().iter().all(|range| range.end <= len)
     }
 
-    /// Reads the bytes, as far as the file goes, and writes them again. After a sync that failed the system counts them
-    /// as written, and the next sync would answer Ok without writing them; now it writes them. Whether all of them
-    /// were: what can't be read isn't written.
-    pub fn write_again<F: RawFile>(&self, file: &mut F) -> bool
-        requires { F.tells → (place : ℕ) → HasOne (ranges_of self.now) place → F.unsettled file.old place }
+    /// Reads the bytes, as far as a file of this length goes, and writes them again. After a sync that failed the
+    /// system counts them as written, and the next sync would answer Ok without writing them; now it writes them.
+    /// Whether all of them were: what can't be read isn't written. Behind a fault it goes on, with the next piece.
+    pub fn write_again<F: RawFile>(&self, len: u64, file: &mut F) -> bool
+        requires { F.tells → len ≡ length (F.content file.old) }
         ensures rests { F.tells → Rests F.RawFile file.old file.new }
-        ensures found { F.tells → IsTrue result → (place : ℕ) → HasOne (ranges_of self.now) place
-            → place < length (F.content file.old) → F.lost file.new place → ⊥ }
+        ensures found { F.tells → IsTrue result → (place : ℕ)
+            → lost_of (HasOne (ranges_of self.now)) len (F.lost file.new) place → ⊥ }
+        ensures counted { F.tells → Tells (F.faults file.old) (F.faults file.new) result }
+        ensures others { F.tells → (n : ℕ) → RoseBy n (F.faults file.old) (F.faults file.new)
+            → InPieces n (lost_of (HasOne (ranges_of self.now)) len (F.lost file.new)) }
     {
-        let Ok(len) = file.len() else {
-            return false;
-        };
         let mut all = true;
         for range in self.ranges.as_slice() {
             all = write_range_again(*range, len, file) && all;

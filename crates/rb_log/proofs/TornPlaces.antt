@@ -10,7 +10,7 @@ use Rattle.rb_layout.specs.Regions.{log_offset, file_length}
 use Rattle.rb_layout.specs.declared.layout.Head.{Head}
 use Rattle.rb_layout.specs.declared.layout.Layout.{Layout}
 use Rattle.rb_log.specs.GroupLaws.{slot_low, slot_high, slot_below, slot_on, slot_round}
-use Rattle.rb_log.specs.GroupSlots.{SameButGroups}
+use Rattle.rb_log.specs.GroupSlots.{SameButGate, SameButGroups}
 use Rattle.rb_log.specs.Slots.{slot_at, slot_of, log_unit, gate_of, SameOutside}
 use Rattle.rb_log.proofs.Writes.{part_below, part_beyond, gate_at, torn_outside}
 
@@ -115,19 +115,18 @@ module _ (l : Layout) (head : Head) (slot : head.slot < l.log) where
   pub groups_all : (end count : ℕ) (f : List ℕ) → SameButGroups l head end count f f
   groups_all end count f = record { outside = outside_all l.log f; units = λ k lt away. refl; behind = refl; gate = refl }
 
-  -- what a torn gate leaves: each other place, and the body of its own
-  pub record GateTorn (at : ℕ) (d c : List ℕ) : Type 0 where
-    pub outside : SameOutside l.log d c
-    pub units : (k : ℕ) → k < l.log → (k < at) ⊎ (at < k) → log_unit l head c k ≡ log_unit l head d k
-    pub body : drop 1 (log_unit l head c at) ≡ drop 1 (log_unit l head d at)
-
-  pub torn_gate : (at : ℕ) (d c : List ℕ) → at < l.log → length d ≡ file_length l → Torn (log_offset (slot_of l head at)) 1 d c → GateTorn at d c
+  -- what a torn gate leaves
+  pub torn_gate : (at : ℕ) (d c : List ℕ) → at < l.log → length d ≡ file_length l → Torn (log_offset (slot_of l head at)) 1 d c → SameButGate l head at d c
   torn_gate at d c room whole torn =
       let a = slot_of l head at in
       let line : a < l.log = slot_below l head at slot (omega (arith, room)) in record {
         outside = torn_outside l.log d c (log_offset a) 1 (omega arith) (omega (arith, line)) (omega (arith, whole)) torn;
-        units = λ k lt away.
-            let two = apart at 0 k (omega (arith, room)) lt (⊎_elim (λ before. inl before) (λ behind. inr (omega (arith, behind))) away) (omega (arith, line)) in
+        units = λ k lt other.
+            let away : (k < at) ⊎ (at + 0 < k) = elim (cases_lt k at) [
+              | inl before ↦ inl before
+              | inr behind ↦ inr (omega (arith, behind, other))
+            ] in
+            let two = apart at 0 k (omega (arith, room)) lt away (omega (arith, line)) in
             ⊎_elim (λ before. part_below c d (log_offset a) (log_offset (slot_of l head k)) UNIT torn.before (omega (arith, before))) (λ behind. part_beyond c d (log_offset a + 1) (log_offset (slot_of l head k)) UNIT torn.behind (omega (arith, behind))) two;
         body = body_part c a ∙ part_beyond c d (log_offset a + 1) (log_offset a + 1) (UNIT - 1) torn.behind (omega arith) ∙ sym (body_part d a);
       }

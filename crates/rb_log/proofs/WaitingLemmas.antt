@@ -1,18 +1,15 @@
 -- The units that wait: their bodies and groups, some of them, and one more.
-use Rattle.std.proofs.Common.{◌≡◌, ℕ, zero, suc, ◌+◌, ◌-◌, ◌*◌, ◌<◌, ◌≤◌, min, List, [], ◌∷◌, ◌++◌, length, take, drop, map, get_or, set, slice_index, inl, inr, refl, sym, ◌∙◌, ap, subst, arith}
+use Rattle.std.proofs.Common.{◌≡◌, ℕ, zero, suc, ◌+◌, ◌-◌, ◌*◌, ◌<◌, ◌≤◌, min, List, [], ◌∷◌, ◌++◌, length, take, drop, map, get_or, set, slice_index, inl, inr, refl, sym, ◌∙◌, ap, arith}
 use Rattle.std.proofs.lemmas.Bool.{cases_eq, cases_lt}
-use Rattle.std.proofs.lemmas.List.{length-map, length-set, length-take-le, length-drop, length-append, take-map, drop-map, take_at, drop_at, take-append-drop, drop_more, drop-drop, get_or-take, get_or-drop, get_or-set_same, get_or-set_other, map-append, map-set, set-get_or, take-set-le, take_more_set, get_or_append_left, get_or_push}
-use Rattle.std.specs.List.{flat_map, AllByRecursion}
-use borrow.Rule.Slice.PartMut.{put_mid}
+use Rattle.std.proofs.lemmas.List.{length-map, length-set, length-take-le, length-append, take-map, take_at, drop_at, take-append-drop, drop-drop, get_or-set_same, get_or-set_other, map-append, map-set, set-get_or, take-set-le, take_more_set, get_or_append_left, get_or_push}
+use Rattle.std.specs.List.{flat_map}
 use Rattle.rb_base.specs.declared.sizes.TheConstants.{UNIT}
 use Rattle.rb_base.specs.Fields.{part}
 use Rattle.rb_base.specs.Groups.{Patch, IsGroup}
-use Rattle.rb_base.proofs.Each.{all_take}
 use Rattle.rb_group.proofs.Spelling.{group_back}
-use Rattle.rb_layout.specs.declared.layout.Layout.{Layout}
-use Rattle.rb_log.specs.GroupSlots.{IsLoggable, group_unit}
+use Rattle.rb_log.specs.GroupSlots.{group_unit}
 use Rattle.rb_log.specs.WaitingUnits.{body_of, bodies_of, group_of_body, groups_of, groups_in, AreSpelled}
-use Rattle.rb_log.proofs.GroupUnits.{AreSideBySide, length-body, piece}
+use Rattle.rb_log.proofs.GroupUnits.{length-body, piece}
 
 -- as many groups as units
 pub as_many : (units : List (List ℕ)) → length (groups_in units) ≡ length units
@@ -23,48 +20,10 @@ get_or-map f [] i d e lt = absurd (omega arith)
 get_or-map f (x ∷ xs) zero d e lt = refl
 get_or-map f (x ∷ xs) (suc i) d e lt = get_or-map f xs i d e (omega arith)
 
--- some of the units, by their bodies
-pub some_bodies : (n m : ℕ) (units : List (List ℕ)) → bodies_of (take n (drop m units)) ≡ take n (drop m (bodies_of units))
-some_bodies n m units = sym (take-map body_of n (drop m units)) ∙ ap (take n) (sym (drop-map body_of m units))
-
-pub some_groups : (n m : ℕ) (bodies : List (List ℕ)) → groups_of (take n (drop m bodies)) ≡ take n (drop m (groups_of bodies))
-some_groups n m bodies = sym (take-map group_of_body n (drop m bodies)) ∙ ap (take n) (sym (drop-map group_of_body m bodies))
-
-pub some_spelled : (number n m : ℕ) (bodies : List (List ℕ)) → m + n ≤ length bodies → AreSpelled number bodies → AreSpelled (number + m) (take n (drop m bodies))
-some_spelled number n m bodies le all k d lt =
-    let long : length (take n (drop m bodies)) ≡ n = length-take-le n (drop m bodies) (omega (arith, length-drop m bodies, le)) in
-    let below : k < n = omega (arith, lt, long) in
-    let here : get_or (take n (drop m bodies)) k [] ≡ get_or bodies (m + k) [] = get_or-take n (drop m bodies) k [] below ∙ get_or-drop m bodies k [] in
-    let group : get_or (groups_of (take n (drop m bodies))) k d ≡ get_or (groups_of bodies) (m + k) d = ap (λ (gs : List (List Patch)). get_or gs k d) (some_groups n m bodies) ∙ get_or-take n (drop m (groups_of bodies)) k d below ∙ get_or-drop m (groups_of bodies) k d in
-    here ∙ all (m + k) d (omega (arith, below, le)) ∙ ap (λ (j : ℕ). drop 1 (group_unit 0 j (get_or (groups_of bodies) (m + k) d))) (omega arith) ∙ ap (λ (g : List Patch). drop 1 (group_unit 0 (number + m + k) g)) (sym group)
-
--- a run of the units, of which each has the body that it had
-pub run_groups : (old units : List (List ℕ)) (n m count : ℕ) → bodies_of units ≡ bodies_of old → n ≡ count → groups_in (take n (drop m units)) ≡ take count (drop m (groups_in old))
-run_groups old units n m count same is =
-    ap groups_of (some_bodies n m units) ∙ some_groups n m (bodies_of units) ∙ ap (λ (bodies : List (List ℕ)). take n (drop m (groups_of bodies))) same ∙ ap (λ (k : ℕ). take k (drop m (groups_in old))) is
-
-pub run_spelled : (old units : List (List ℕ)) (number first n m : ℕ) → bodies_of units ≡ bodies_of old → m + n ≤ length old → first ≡ number + m → AreSpelled number (bodies_of old) → AreSpelled first (bodies_of (take n (drop m units)))
-run_spelled old units number first n m same le is all =
-    let bodies : bodies_of (take n (drop m units)) ≡ take n (drop m (bodies_of old)) = some_bodies n m units ∙ ap (λ (l : List (List ℕ)). take n (drop m l)) same in
-    subst (λ (i : ℕ). AreSpelled i (bodies_of (take n (drop m units)))) (sym is) (subst (AreSpelled (number + m)) (sym bodies) (some_spelled number n m (bodies_of old) (omega (arith, le, length-map old body_of)) all))
-
-pub run_logged : (l : Layout) (old units : List (List ℕ)) (n m : ℕ) → bodies_of units ≡ bodies_of old → AllByRecursion (IsLoggable l) (groups_in old) → AllByRecursion (IsLoggable l) (groups_in (take n (drop m units)))
-run_logged l old units n m same all = subst (λ (gs : List (List Patch)). AllByRecursion (IsLoggable l) gs) (sym (run_groups old units n m n same refl)) (all_take (IsLoggable l) n (drop m (groups_in old)) (rest m (groups_in old) all))
-  where
-    rest : (k : ℕ) (gs : List (List Patch)) → AllByRecursion (IsLoggable l) gs → AllByRecursion (IsLoggable l) (drop k gs)
-    rest zero gs each = each
-    rest (suc k) [] each = tt
-    rest (suc k) (g ∷ gs) each = rest k gs each.1
-
--- units put in the place of the first, or of some, with the same bodies
+-- units put in the place of the first, with the same bodies
 pub front_bodies : (units new : List (List ℕ)) (n : ℕ) → bodies_of new ≡ bodies_of (take n units) → bodies_of (new ++ drop n units) ≡ bodies_of units
 front_bodies units new n same =
     map-append body_of new (drop n units) ∙ ap (λ (l : List (List ℕ)). l ++ bodies_of (drop n units)) same ∙ sym (map-append body_of (take n units) (drop n units)) ∙ ap bodies_of (take-append-drop n units)
-
-pub put_bodies : (units new : List (List ℕ)) (m n : ℕ) → m + n ≤ length units → bodies_of new ≡ bodies_of (take n (drop m units)) → bodies_of (put_mid m n units new) ≡ bodies_of units
-put_bodies units new m n le same =
-    map-append body_of (take m units) (new ++ drop n (drop m units)) ∙ ap (λ (l : List (List ℕ)). bodies_of (take m units) ++ l) (front_bodies (drop m units) new n same)
-    ∙ sym (map-append body_of (take m units) (drop m units)) ∙ ap bodies_of (take-append-drop m units)
 
 -- Gates are set so far, and one more. The bodies stay.
 pub record GatesSet (old units : List (List ℕ)) (i : ℕ) : Type 0 where
@@ -97,29 +56,6 @@ flat_part (unit ∷ units) (suc k) whole lt =
     let at : UNIT * suc k ≡ UNIT + UNIT * k = omega arith in
     ap (take UNIT) (ap (λ (i : ℕ). drop i (unit ++ rest)) at ∙ sym (drop-drop (UNIT * k) UNIT (unit ++ rest)) ∙ ap (drop (UNIT * k)) (drop_at unit rest UNIT (whole 0 (omega arith))))
     ∙ flat_part units k (λ j below. whole (suc j) (omega (arith, below))) (omega (arith, lt))
-
--- a unit is its body and the gate after it
-unit_parts : (unit : List ℕ) (next : ℕ) → length unit ≡ UNIT → slice_index unit (UNIT - 1) ≡ next → unit ≡ body_of unit ++ next ∷ []
-unit_parts unit next long is =
-    sym (take-append-drop (UNIT - 1) unit) ∙ ap (λ (l : List ℕ). body_of unit ++ l) (drop_more unit (UNIT - 1) 0 (omega (arith, long)) ∙ ap (λ (l : List ℕ). slice_index unit (UNIT - 1) ∷ l) (none (drop (UNIT - 1 + 1) unit) (omega (arith, long, length-drop (UNIT - 1 + 1) unit))) ∙ ap (λ (b : ℕ). b ∷ []) is)
-  where
-    none : (l : List ℕ) → length l ≡ 0 → l ≡ []
-    none [] e = refl
-    none (x ∷ xs) e = absurd (omega (arith, e))
-
--- units with their gates are what is written of their groups
-pub beside : (number : ℕ) (old new : List (List ℕ)) → length new ≡ length old → ((k : ℕ) → k < length new → length (get_or new k []) ≡ UNIT) → bodies_of new ≡ bodies_of old
-    → ((k : ℕ) → k < length old → slice_index (get_or new k []) (UNIT - 1) ≡ min 1 (length old - (k + 1))) → AreSpelled number (bodies_of old)
-    → AreSideBySide number (groups_in old) (flat_map (λ (unit : List ℕ). unit) new) (length (groups_in old))
-beside number old new long whole same gates spelled k d lt =
-    let many = as_many old in
-    let below : k < length old = omega (arith, lt, many) in
-    let here : k < length new = omega (arith, below, long) in
-    let next = min 1 (length (groups_in old) - (k + 1)) in
-    let gate : slice_index (get_or new k []) (UNIT - 1) ≡ next = gates k below ∙ ap (λ (n : ℕ). min 1 (n - (k + 1))) (sym many) in
-    let body : body_of (get_or new k []) ≡ drop 1 (group_unit 0 (number + k) (get_or (groups_in old) k d)) =
-    sym (get_or-map body_of new k [] [] here) ∙ ap (λ (l : List (List ℕ)). get_or l k []) same ∙ spelled k d (omega (arith, below, length-map old body_of)) in
-    flat_part new k whole here ∙ unit_parts (get_or new k []) next (whole k here) gate ∙ ap (λ (l : List ℕ). l ++ next ∷ []) body
 
 -- a body spells its group
 pub spells : (number : ℕ) (group : List Patch) → IsGroup group → group_of_body (drop 1 (group_unit 0 number group)) ≡ group

@@ -1,7 +1,7 @@
 -- The groups that wait in memory for a flush. Of each there are as many bytes as a slot has: its unit behind the gate,
 -- which is its body, and then the gate of the slot after it.
 use Rattle.std.specs.Prelude.{◌≡◌, ℕ, ◌+◌, ◌-◌, ◌^◌, ◌<◌, ◌≤◌, List, length, take}
-use Rattle.std.specs.Prelude.{drop, map, get_or, replicate, [], ◌∷◌, Bool, true, false}
+use Rattle.std.specs.Prelude.{drop, map, get_or, slice_index, replicate, [], ◌∷◌, Bool, true, false}
 use Rattle.std.specs.List.{AllByRecursion}
 use Rattle.rb_base.specs.Fields.{part, number_at}
 use Rattle.rb_base.specs.Groups.{Patch}
@@ -9,14 +9,18 @@ use Rattle.rb_base.specs.declared.sizes.TheConstants.{UNIT}
 use Rattle.rb_group.specs.Spelling.{group_in_front}
 use Rattle.rb_layout.specs.declared.layout.Head.{Head}
 use Rattle.rb_layout.specs.declared.layout.Layout.{Layout}
-use Rattle.rb_log.specs.GroupSlots.{IsLoggable, group_unit}
-use Rattle.rb_log.specs.Slots.{slot_of}
+use Rattle.rb_log.specs.GroupSlots.{IsLoggable, SameButGroups, group_unit}
+use Rattle.rb_log.specs.Slots.{slot_of, log_unit, gate_of}
 use Rattle.rb_log.specs.declared.sizes.TheConstants.{FLUSH_BYTES, FLUSH_SLOTS}
 use Rattle.rb_log.specs.declared.unit.TheConstants.{GROUP, LENGTH}
 
 -- the bytes without that gate
 abbrev pub body_of : List ℕ → List ℕ
 body_of unit = take (UNIT - 1) unit
+
+-- and that gate
+abbrev pub gate_after : List ℕ → ℕ
+gate_after unit = slice_index unit (UNIT - 1)
 
 abbrev pub bodies_of : List (List ℕ) → List (List ℕ)
 bodies_of units = map body_of units
@@ -35,6 +39,14 @@ groups_in units = groups_of (bodies_of units)
 abbrev pub AreSpelled : ℕ → List (List ℕ) → Type 0
 AreSpelled number bodies = (k : ℕ) (d : List Patch) → k < length bodies
     → get_or bodies k [] ≡ drop 1 (group_unit 0 (number + k) (get_or (groups_of bodies) k d))
+
+-- Units are written to the places of a file from `at` on: each body, and the gate after it. The gate of the first place
+-- is as it was.
+pub record UnitsWritten (l : Layout) (head : Head) (at : ℕ) (units : List (List ℕ)) (file c : List ℕ) :
+    Type 0 where
+  pub others : SameButGroups l head at (length units) file c
+  pub bodies : (k : ℕ) → k < length units → drop 1 (log_unit l head c (at + k)) ≡ body_of (get_or units k [])
+  pub gates : (k : ℕ) → k < length units → gate_of l head c (at + (k + 1)) ≡ gate_after (get_or units k [])
 
 -- how many bytes the group of a body has, by the field that says so
 abbrev pub length_in : List ℕ → ℕ

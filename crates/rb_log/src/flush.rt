@@ -1,8 +1,6 @@
-//! Groups of patches written to the log slots of a file, each there whole or not at all after a crash. The
-//! log calls it.
-ghost use Rattle.std.specs.Prelude.{◌≡◌, ◌⊎◌, ◌+◌, ◌-◌, ◌*◌, ◌++◌, ◌<◌, ◌≤◌};
-ghost use Rattle.std.specs.Prelude.{◌^◌, [], ◌∷◌, ℕ, List, length, take, min, slice_index, slice_index_or};
-ghost use Rattle.std.specs.Prelude.{OnOk, true};
+//! Groups of patches written to the log slots of a file, all there or none after a crash. The log calls it.
+ghost use Rattle.std.specs.Prelude.{◌≡◌, ◌+◌, ◌-◌, ◌^◌, ◌++◌, ◌<◌, ◌≤◌, OnOk, ℕ, List, []};
+ghost use Rattle.std.specs.Prelude.{length, take, min, slice_index_or};
 ghost use Rattle.std.specs.List.{AllByRecursion};
 ghost use Rattle.rb_base.specs.Counts.{IsCounted};
 ghost use Rattle.rb_base.specs.Groups.{Patch};
@@ -10,15 +8,15 @@ ghost use Rattle.rb_disk.specs.DiskModel.{Follows, Only};
 ghost use Rattle.rb_disk.specs.Moments.{Leaves};
 ghost use Rattle.rb_layout.specs.Regions.{file_length};
 ghost use Rattle.rb_log.specs.Slots.{slot_of, log_unit, gate_of, OutsideFrom, SameSlots, SameOutside};
-ghost use Rattle.rb_log.specs.GroupSlots.{GroupsAre, IsLoggable, group_unit, FlushedSome, AreStaged, AreOpen};
-ghost use Rattle.rb_log.specs.WaitingUnits.{bodies_of, groups_in, AreSpelled};
-ghost use Rattle.rb_log.specs.GroupSlots.{begins_run, RunWritten, SameButGroups, SameButUnits, StagedFrom};
+ghost use Rattle.rb_log.specs.GroupSlots.{GroupsAre, IsLoggable, group_unit, FlushedOrNot, StagedFrom};
+ghost use Rattle.rb_log.specs.GroupSlots.{SameButGate, SameButGroups, SameButUnits};
+ghost use Rattle.rb_log.specs.WaitingUnits.{bodies_of, groups_in, AreSpelled, UnitsWritten};
 
 use crate::places::slot_behind;
 use crate::sizes::FLUSH_SLOTS;
 use crate::waiting::set_gates;
 use rb_base::{Failed, UNIT};
-use rb_disk::Disk;
+use rb_disk::{Disk, write_synced};
 use rb_layout::{Head, Layout};
 
 /// How many groups the run has that begins in a slot, where so many are left: up to 32, and no more than there are
@@ -30,91 +28,47 @@ fn run_length(layout: &Layout, slot: u32, left: usize) -> usize
     left.min(FLUSH_SLOTS).min((layout.log - slot) as usize)
 }
 
-/// Writes a run of up to 32 groups from a place on, but for its first gate, and a closed gate after it. Where it ends
-/// in the last slot of the file, that gate is the first slot's, and is written alone. It doesn't sync.
+/// Writes a run of up to 32 units from a place on: each body, and the gate after it. The gate of that place isn't
+/// touched. Where the run ends in the last slot of the file, the gate after it is the first slot's, and is written
+/// alone. It doesn't sync.
 fn write_run<D: Disk>(
     disk: &mut D,
     layout: &Layout,
     head: Head,
     place: u32,
-    units: &mut [[u8; UNIT]],
+    units: &[[u8; UNIT]],
 ) -> Result<(), Failed>
     requires slot { head.slot < layout.now.log }
     requires whole { D.tells → length (D.content disk.old) ≡ file_length layout.now }
     requires sized { D.tells → (c : List ℕ) → D.image disk.old c → length c ≡ file_length layout.now }
-    requires some { 0 < length (groups_in units.old) }
-    requires few { length (groups_in units.old) ≤ FLUSH_SLOTS }
-    requires room { place + length (groups_in units.old) < layout.now.log }
-    requires line { slot_of layout.now head place + length (groups_in units.old) ≤ layout.now.log }
-    requires small { head.number + (place + length (groups_in units.old)) ≤ 2 ^ 63 }
-    requires each { AllByRecursion (IsLoggable layout.now) (groups_in units.old) }
-    requires spelled { AreSpelled (head.number + place) (bodies_of units.old) }
-    ensures written { D.tells → OnOk result (RunWritten layout.now head place (groups_in units.old)
-        (D.content disk.old) (D.content disk.new)) }
-    ensures images { D.tells → Follows (SameButGroups layout.now head place (length (groups_in units.old)))
+    requires some { 0 < length units.now }
+    requires few { length units.now ≤ FLUSH_SLOTS }
+    requires room { place + length units.now < layout.now.log }
+    requires line { slot_of layout.now head place + length units.now ≤ layout.now.log }
+    ensures written { D.tells → OnOk result
+        (UnitsWritten layout.now head place units.now (D.content disk.old) (D.content disk.new)) }
+    ensures images { D.tells → Follows (SameButGroups layout.now head place (length units.now))
         (D.image disk.old) (D.image disk.new) }
     ensures any_moment { D.tells → Leaves D.Disk disk.old disk.new
-        (StagedFrom layout.now head place (length (groups_in units.old)) (D.image disk.old)) }
+        (StagedFrom layout.now head place (length units.now) (D.image disk.old)) }
     ensures whole { D.tells → length (D.content disk.new) ≡ file_length layout.now }
-    ensures bodies { bodies_of units.new ≡ bodies_of units.old }
     ensures counted { IsCounted (D.faults disk.old) (D.faults disk.new) result }
 {
     let slot = slot_behind(layout, head, place);
-    set_gates(units);
     let at = layout.log_at(slot) + 1;
     let bytes = units.as_flattened();
     if slot + (units.len() as u32) < layout.log {
         return disk.write_at(at, bytes);
     }
-    disk.write_at(at, &bytes[..bytes.len() - 1])?;
-    disk.write_at(layout.log_at(0), &[0])
+    let last = bytes.len() - 1;
+    disk.write_at(at, &bytes[..last])?;
+    disk.write_at(layout.log_at(0), &bytes[last..])
 }
 
-/// Step one of a flush: writes the groups, run by run, each with its first gate closed, and syncs. Only then may a
-/// first gate be opened, since a crash may leave any part of what isn't synced. The gate of the place `used`, which is
-/// closed already, isn't touched.
+/// Step one of a flush: writes the units, run by run, and syncs. The gate of the place `used`, which is closed, isn't
+/// touched: the log still ends there. Only behind this sync may it be opened, since a crash may leave any part of what
+/// isn't synced.
 fn stage<D: Disk>(
-    disk: &mut D,
-    layout: &Layout,
-    head: Head,
-    used: u32,
-    units: &mut [[u8; UNIT]],
-) -> Result<(), Failed>
-    requires slot { head.slot < layout.now.log }
-    requires whole { D.tells → length (D.content disk.old) ≡ file_length layout.now }
-    requires sized { D.tells → (c : List ℕ) → D.image disk.old c → length c ≡ file_length layout.now }
-    requires some { 0 < length (groups_in units.old) }
-    requires room { used + length (groups_in units.old) < layout.now.log }
-    requires small { head.number + (used + length (groups_in units.old)) ≤ 2 ^ 63 }
-    requires each { AllByRecursion (IsLoggable layout.now) (groups_in units.old) }
-    requires spelled { AreSpelled (head.number + used) (bodies_of units.old) }
-    ensures staged { D.tells → OnOk result (AreStaged layout.now head used (groups_in units.old) (D.content disk.old)
-        (D.content disk.new)) }
-    ensures closed { D.tells → OnOk result ((k : ℕ) → 0 < k → k < length (groups_in units.old)
-        → begins_run (layout.now.log - slot_of layout.now head used) k ≡ true
-        → gate_of layout.now head (D.content disk.new) (used + k) ≡ 0) }
-    ensures durable { D.tells → OnOk result (Only (D.content disk.new) (D.image disk.new)) }
-    ensures whole { D.tells → length (D.content disk.new) ≡ file_length layout.now }
-    ensures any_moment { D.tells → Leaves D.Disk disk.old disk.new
-        (StagedFrom layout.now head used (length (groups_in units.old)) (D.image disk.old)) }
-    ensures bodies { bodies_of units.new ≡ bodies_of units.old }
-    ensures counted { IsCounted (D.faults disk.old) (D.faults disk.new) result }
-{
-    let mut done = 0;
-    while done < units.len() {
-        let place = used + done as u32;
-        let slot = slot_behind(layout, head, place);
-        let count = run_length(layout, slot, units.len() - done);
-        let end = done + count;
-        write_run(disk, layout, head, place, &mut units[done..end])?;
-        done = end;
-    }
-    disk.sync()
-}
-
-/// Step two of a flush: opens the first gate of each run, in order, and syncs. A crash before leaves any of them open;
-/// the log ends at the first that isn't.
-fn open_gates<D: Disk>(
     disk: &mut D,
     layout: &Layout,
     head: Head,
@@ -123,34 +77,49 @@ fn open_gates<D: Disk>(
 ) -> Result<(), Failed>
     requires slot { head.slot < layout.now.log }
     requires whole { D.tells → length (D.content disk.old) ≡ file_length layout.now }
-    requires room { used + length (groups_in units.now) < layout.now.log }
-    requires synced { D.tells → Only (D.content disk.old) (D.image disk.old) }
-    ensures staged { D.tells → OnOk result ((file : List ℕ)
-        → AreStaged layout.now head used (groups_in units.now) file (D.content disk.old)
-        → AreStaged layout.now head used (groups_in units.now) file (D.content disk.new)) }
-    ensures opened { D.tells → OnOk result (AreOpen layout.now head used (length (groups_in units.now))
-        (D.content disk.new)) }
+    requires sized { D.tells → (c : List ℕ) → D.image disk.old c → length c ≡ file_length layout.now }
+    requires room { used + length units.now < layout.now.log }
+    ensures written { D.tells → OnOk result
+        (UnitsWritten layout.now head used units.now (D.content disk.old) (D.content disk.new)) }
     ensures durable { D.tells → OnOk result (Only (D.content disk.new) (D.image disk.new)) }
     ensures whole { D.tells → length (D.content disk.new) ≡ file_length layout.now }
-    ensures any_moment { D.tells → (file : List ℕ)
-        → AreStaged layout.now head used (groups_in units.now) file (D.content disk.old)
-        → Leaves D.Disk disk.old disk.new (AreStaged layout.now head used (groups_in units.now) file) }
+    ensures any_moment { D.tells → Leaves D.Disk disk.old disk.new
+        (StagedFrom layout.now head used (length units.now) (D.image disk.old)) }
     ensures counted { IsCounted (D.faults disk.old) (D.faults disk.new) result }
 {
     let mut done = 0;
     while done < units.len() {
-        let slot = slot_behind(layout, head, used + done as u32);
+        let place = used + done as u32;
+        let slot = slot_behind(layout, head, place);
         let count = run_length(layout, slot, units.len() - done);
-        disk.write_at(layout.log_at(slot), &[1])?;
-        done += count;
+        let end = done + count;
+        write_run(disk, layout, head, place, &units[done..end])?;
+        done = end;
     }
     disk.sync()
 }
 
-/// Writes the groups of the first `count` units to the log's places from `used` on, in runs of up to 32; one slot
-/// stays free after them. Each group has a patch, and its blocks are those of the file. After an Ok every image has all
-/// of them, and a crash before leaves a number of whole runs. Of the units it sets the gates alone, which say nothing
-/// of the groups.
+/// Step two of a flush: opens the gate of its first place, and syncs. With it all of the groups are in the log, since
+/// the gates between them are open.
+fn open_gate<D: Disk>(disk: &mut D, layout: &Layout, head: Head, place: u32) -> Result<(), Failed>
+    requires slot { head.slot < layout.now.log }
+    requires place { place < layout.now.log }
+    requires whole { D.tells → length (D.content disk.old) ≡ file_length layout.now }
+    requires synced { D.tells → Only (D.content disk.old) (D.image disk.old) }
+    ensures opened { D.tells → OnOk result (gate_of layout.now head (D.content disk.new) place ≡ 1) }
+    ensures same { D.tells → SameButGate layout.now head place (D.content disk.old) (D.content disk.new) }
+    ensures durable { D.tells → OnOk result (Only (D.content disk.new) (D.image disk.new)) }
+    ensures any_moment { D.tells → Leaves D.Disk disk.old disk.new
+        (SameButGate layout.now head place (D.content disk.old)) }
+    ensures counted { IsCounted (D.faults disk.old) (D.faults disk.new) result }
+{
+    let slot = slot_behind(layout, head, place);
+    write_synced(disk, layout.log_at(slot), &[1])
+}
+
+/// Writes the groups of the first `count` units to the log's places from `used` on; one slot stays free after them.
+/// Each group has a patch, and its blocks are those of the file. After an Ok every image has all of them, and a crash
+/// before leaves all of them or none. Of the units it sets the gates alone, which say nothing of the groups.
 pub(crate) fn write_groups<D: Disk>(
     disk: &mut D,
     layout: &Layout,
@@ -191,7 +160,7 @@ pub(crate) fn write_groups<D: Disk>(
     ensures any_moment { D.tells → (before : List (List Patch)) → length before ≡ used
         → GroupsAre layout.now head (D.content disk.old) 0 before
         → Leaves D.Disk disk.old disk.new
-        (FlushedSome (D.image disk.old) layout.now head before (groups_in (take count units.old))) }
+        (FlushedOrNot (D.image disk.old) layout.now head before (groups_in (take count units.old))) }
     ensures bodies { bodies_of units.new ≡ bodies_of units.old }
     ensures counted { IsCounted (D.faults disk.old) (D.faults disk.new) result }
 {
@@ -199,6 +168,7 @@ pub(crate) fn write_groups<D: Disk>(
         return Ok(());
     }
     let units = &mut units[..count];
+    set_gates(units);
     stage(disk, layout, head, used, units)?;
-    open_gates(disk, layout, head, used, units)
+    open_gate(disk, layout, head, used)
 }

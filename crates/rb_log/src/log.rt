@@ -9,7 +9,7 @@ ghost use Rattle.rb_base.specs.Groups.{Patch, IsGroup};
 ghost use Rattle.rb_disk.specs.DiskModel.{Only};
 ghost use Rattle.rb_disk.specs.Moments.{Leaves, Rests};
 ghost use Rattle.rb_layout.specs.Regions.{file_length, shape_of};
-ghost use Rattle.rb_log.specs.GroupSlots.{AreFrom, HoldsGroup, GroupsAre, IsFaultyGroup, FlushedSome, KeptLog};
+ghost use Rattle.rb_log.specs.GroupSlots.{AreFrom, HoldsGroup, GroupsAre, IsFaultyGroup, FlushedOrNot, KeptLog};
 ghost use Rattle.rb_log.specs.GroupSlots.{IsLoggable, group_unit, SameButUnits};
 ghost use Rattle.rb_log.specs.Slots.{slot_of, log_unit, gate_of, head_at, OutsideFrom, SameSlots, SameOutside};
 
@@ -203,8 +203,8 @@ impl Log {
         self.waiting += 1;
     }
 
-    /// Writes the groups that wait behind those of the log, in runs of up to 32 slots, with two syncs. After an Ok
-    /// every image has all of them; a crash before leaves a number of whole runs. Where none waits it makes no call.
+    /// Writes the groups that wait behind those of the log, with two syncs. After an Ok every image has all of them; a
+    /// crash before leaves all of them or none. Where none waits it makes no call.
     pub fn flush<D: Disk>(&mut self, disk: &mut D) -> Result<(), Failed>
         requires whole { D.tells → length (D.content disk.old) ≡ file_length self.old.layout }
         requires synced { D.tells → (c : List ℕ) → D.image disk.old c
@@ -234,7 +234,7 @@ impl Log {
         ensures any_moment { D.tells → (groups : List (List Patch)) → length groups ≡ self.old.used
             → GroupsAre self.old.layout self.old.head (D.content disk.old) 0 groups
             → Leaves D.Disk disk.old disk.new
-            (FlushedSome (D.image disk.old) self.old.layout self.old.head groups self.old.pending) }
+            (FlushedOrNot (D.image disk.old) self.old.layout self.old.head groups self.old.pending) }
         ensures flushed { OnOk result (self.new ≡ record self.old
             { used = self.old.used + length self.old.pending; pending = [] }) }
         ensures stays { OnErr result (self.new ≡ self.old) }

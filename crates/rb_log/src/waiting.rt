@@ -1,10 +1,10 @@
 //! The groups that wait for a flush, in units as they are written. `Log` puts them there, and its flush sets the gates
-//! between them.
+//! after them.
 ghost use Rattle.std.specs.Prelude.{◌≡◌, ◌+◌, ◌-◌, ◌<◌, ◌≤◌, [], ◌∷◌, ◌++◌, ℕ};
-ghost use Rattle.std.specs.Prelude.{drop, length, take, min, slice_index, slice_index_or, vec_capacity};
+ghost use Rattle.std.specs.Prelude.{drop, length, take, min, slice_index_or, vec_capacity};
 ghost use Rattle.rb_base.specs.Groups.{IsGroup};
 ghost use Rattle.rb_log.specs.GroupSlots.{group_unit};
-ghost use Rattle.rb_log.specs.WaitingUnits.{body_of, bodies_of, AreSpare, IsSpare};
+ghost use Rattle.rb_log.specs.WaitingUnits.{body_of, bodies_of, gate_after, AreSpare, IsSpare};
 
 use crate::unit::{GROUP, LENGTH, NUMBER};
 use rb_base::{Group, UNIT, put_u16, put_u64, u16_at};
@@ -42,11 +42,11 @@ pub(crate) fn put_body(bytes: &mut [u8], number: u64, group: &Group)
     put_u64(bytes, NUMBER - 1, number);
 }
 
-/// Sets the gate after each unit of a run: it is open where one of the run follows.
+/// Sets the gate after each unit of a flush: it is open where another one follows.
 pub(crate) fn set_gates(units: &mut [[u8; UNIT]])
     ensures bodies { bodies_of units.new ≡ bodies_of units.old }
     ensures gates { (k : ℕ) → k < length units.old
-        → slice_index (slice_index_or units.new k []) (UNIT - 1) ≡ min 1 (length units.old - (k + 1)) }
+        → gate_after (slice_index_or units.new k []) ≡ min 1 (length units.old - (k + 1)) }
     ensures whole { (k : ℕ) → k < length units.new → length (slice_index_or units.new k []) ≡ UNIT }
 {
     let count = units.len();

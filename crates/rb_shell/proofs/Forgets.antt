@@ -3,6 +3,7 @@ use Rattle.std.proofs.Common.{inl, inr, ⊎_elim, ℕ, zero, suc, Bool, true, fa
 use Rattle.std.specs.Prelude.{MatchBool}
 use Rattle.rb_shell.specs.Over.{plain}
 use Rattle.rb_lines.specs.Cut.{CutOff}
+use Rattle.rb_lines.specs.Ends.{Halted}
 use Rattle.rb_lines.specs.Ran.{LineBegun, Ran}
 use Rattle.rb_lines.specs.Whole.{whole_lines}
 use Rattle.rb_model.specs.Calls.{Answer, Call}
@@ -74,6 +75,22 @@ module _ (o : Outside) where
 
   pub ran_plain : (m m2 : Logged) (ls : List (List ℕ)) (tells : Type 0) (before held : List ℕ) → Ran o m m2 ls tells before held → Ran plain m m2 ls tells before held
   ran_plain m m2 ls tells before held x = record { out = x.out; replies = lines ls m x.out m2 x.replies; written = x.written }
+
+  pub halted_plain : (m m2 : Logged) (most : ℕ) (left left2 : List ℕ) (tells : Type 0) (before held : List ℕ) → Halted o most m m2 left left2 tells before held → Halted plain most m m2 left left2 tells before held
+  halted_plain m m2 most left left2 tells before held x = record {
+    taken = x.taken;
+    piece = x.piece;
+    few = x.few;
+    split = x.split;
+    middle = x.middle;
+    held = x.held;
+    done = ran_plain m x.middle (whole_lines x.taken) tells before x.held x.done;
+    going = x.going;
+    rest = x.rest;
+    lines = x.lines;
+    fault = ran_plain x.middle m2 x.rest tells x.held held x.fault;
+    stopped = x.stopped;
+  }
 
   begun : (m : Logged) (line out : List ℕ) (m2 : Logged) → LineBegun m o line out m2 → LineBegun m plain line out m2
   begun m line out m2 x = ⊎_elim

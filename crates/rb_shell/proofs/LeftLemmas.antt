@@ -1,5 +1,5 @@
 -- Files that a person may have are sound, and what a run over one leaves is one.
-use Rattle.std.proofs.Common.{◌≡◌, ◌⊎◌, inr, inl, ⊎_elim, ◌+◌, ◌^◌, ◌<◌, ◌≤◌, ◌++◌, ℕ, List, [], ◌∷◌, Option, Some, None, refl, sym, ◌∙◌, ap, subst, arith, append_assoc}
+use Rattle.std.proofs.Common.{◌≡◌, ◌⊎◌, inr, inl, ⊎_elim, ◌+◌, ◌^◌, ◌<◌, ◌≤◌, ◌++◌, ℕ, Bool, true, false, List, [], ◌∷◌, Option, Some, None, refl, sym, ◌∙◌, ap, subst, arith, append_assoc}
 use Rattle.std.proofs.lemmas.List.FromFn.{get_or-map-range_with_len}
 use Rattle.std.proofs.lemmas.Option.{same_Some}
 use Rattle.rb_base.specs.Moments.{weaker}
@@ -12,10 +12,12 @@ use Rattle.law_crash.specs.Crash.{AtEnd, OnTheWay, Restarts, RestartsAt}
 use Rattle.rb_layout.specs.Regions.{shape_of}
 use Rattle.rb_layout.specs.declared.layout.Layout.{Layout}
 use Rattle.rb_lines.specs.Cut.{CutOff}
+use Rattle.rb_lines.specs.Ends.{Halted}
 use Rattle.rb_lines.specs.Ran.{Ran}
 use Rattle.rb_model.specs.Book.{Book, book_at, fresh_book}
 use Rattle.rb_model.specs.Calls.{Call}
 use Rattle.rb_model.specs.Change.{Change}
+use Rattle.rb_model.specs.Lines.{lines_of}
 use Rattle.rb_model.specs.Out.{Logged}
 use Rattle.rb_model.specs.Rows.{last_scn, rows_at}
 use Rattle.rb_model.specs.State.{State, all_safe, opened, session_own}
@@ -23,25 +25,27 @@ use Rattle.rb_recovery.proofs.Sound.{sound_as}
 use Rattle.rb_recovery.specs.Opens.{books_of}
 use Rattle.rb_restart.specs.Rollback.{found_book}
 use Rattle.rb_segment.specs.Header.{segment_of}
+use Rattle.rb_segment.specs.Segments.{owed_in}
 use Rattle.rb_shell.proofs.BooksNew.{books_new}
-use Rattle.rb_shell.proofs.Forgets.{cut_plain, ran_plain}
-use Rattle.rb_shell.proofs.NewFile.{new_file, new_log}
+use Rattle.rb_shell.proofs.Forgets.{cut_plain, halted_plain, ran_plain}
+use Rattle.rb_shell.proofs.NewFile.{new_file, new_log, new_number}
 use Rattle.rb_shell.proofs.Restarting.{head_small}
 use Rattle.rb_shell.specs.Left.{Left, fresh, later}
-use Rattle.rb_shell.specs.Over.{HasRows, IsCutOver, LeavesFiles, LeavesSame, LeavesSome, RunsOver, RunsToEnd, plain}
-use Rattle.rb_shell.specs.Runs.{Endures, FirstBlocks, IsSound, Lasts, LeftBehind, OpensSame, first_of}
+use Rattle.rb_shell.specs.Over.{HasRows, HaltsOver, HaveAll, IsCutOver, LeavesAll, LeavesFiles, LeavesSame, LeavesSome, RunsOver, RunsToEnd, at_start, plain}
+use Rattle.rb_shell.specs.Runs.{Endures, FirstBlocks, IsSound, Lasts, LastsBehind, LeftBehind, OpensSame, first_of}
 use Rattle.rb_shell.specs.declared.script.TheConstants.{SCRIPT_BYTES}
 use Rattle.law_blocks.specs.Standing.{SoundAs, logged_of}
 use Rattle.rb_calls.specs.Since.{engine_outside}
 use Rattle.rb_control.specs.Heads.{head_of}
 use Rattle.rb_store.specs.Meaning.{Opens}
 
--- ---- it is sound, and opens with that state
+-- ---- it is sound, and opens with that state and that log number
 
-pub record OpensWith (slots : ℕ) (file : List ℕ) (h : State) : Type 0 where
+pub record OpensWith (slots : ℕ) (file : List ℕ) (h : State) (lsn : ℕ) : Type 0 where
   pub sound : IsSound file
   pub state : sound.state ≡ h
   pub log : sound.store.layout.log ≡ slots
+  pub number : sound.store.lsn + owed_in (shape_of sound.store.layout) sound.store.blocks ≡ lsn
 
 pub restart_small : (slots : Option ℕ) (n : ℕ) (books : List Book) (h : State) (file : List ℕ) → RestartsAt Opens slots books h n file → (head_of file).number ≤ 2 ^ 61
 restart_small slots n books h file r =
@@ -49,7 +53,7 @@ restart_small slots n books h file r =
     let ahead = r.has.sound.standing.ahead in
     head_small r.opening.layout file r.blocks r.lsn r.opening.opens.means (omega (arith, logged, ahead))
 
-restarted : (slots n : ℕ) (books : List Book) (now : State) (file : List ℕ) (r : RestartsAt Opens (Some slots) books now n file) → OpensWith slots file (opened now.shape n (rows_at now.shape.blocks now.commits n) (books_of now.shape r.blocks))
+restarted : (slots n : ℕ) (books : List Book) (now : State) (file : List ℕ) (r : RestartsAt Opens (Some slots) books now n file) → OpensWith slots file (opened now.shape n (rows_at now.shape.blocks now.commits n) (books_of now.shape r.blocks)) (r.lsn + owed_in now.shape r.blocks)
 restarted slots n books h file r =
     let m = r.opening.layout in
     let rows = rows_at h.shape.blocks h.commits n in
@@ -70,15 +74,16 @@ restarted slots n books h file r =
       };
       state = ap (λ (s : Shape). opened s n rows (books_of s r.blocks)) r.opening.shape_is;
       log = same_Some m.log slots r.opening.slots_are;
+      number = ap (λ (s : Shape). r.lsn + owed_in s r.blocks) r.opening.shape_is;
     }
 
-pub opens_with : (slots : ℕ) (file : List ℕ) (h : State) → Left slots file h → OpensWith slots file h
-opens_with slots _ _ (fresh l log file is h opens) =
+pub opens_with : (slots : ℕ) (file : List ℕ) (h : State) (lsn : ℕ) → Left slots file h lsn → OpensWith slots file h lsn
+opens_with slots _ _ _ (fresh l log file is h opens lsn none) =
     let new = new_file l in
-    subst (λ (f : List ℕ). OpensWith slots f h) (sym is)
-    (record { sound = new.0; state = new.1 ∙ (ap (opened (shape_of l) 0 []) (books_new (shape_of l)) ∙ sym opens); log = new_log l ∙ log })
-opens_with slots _ _ (later before first was now extends books n low file r h opens) =
-    subst (OpensWith slots file) (sym opens) (restarted slots n books now file r)
+    subst (λ (f : List ℕ). OpensWith slots f h lsn) (sym is)
+    (record { sound = new.0; state = new.1 ∙ (ap (opened (shape_of l) 0 []) (books_new (shape_of l)) ∙ sym opens); log = new_log l ∙ log; number = new_number l ∙ sym none })
+opens_with slots _ _ _ (later before first number was now extends books n low file r h opens lsn last) =
+    subst (OpensWith slots file h) (sym last) (subst (λ (x : State). OpensWith slots file x (r.lsn + owed_in now.shape r.blocks)) (sym opens) (restarted slots n books now file r))
 
 -- ---- what a run over it leaves is one
 
@@ -92,21 +97,22 @@ marks_found slots n books h file r = record {
     at : (g : ℕ) → g < h.shape.segments → book_at (books_of h.shape r.blocks) g ≡ found_book (segment_of h.shape r.blocks g).header
     at g there = get_or-map-range_with_len (λ (k : ℕ). found_book (segment_of h.shape r.blocks k).header) 0 h.shape.segments g g fresh_book there (omega arith)
 
-all_low : (slots : ℕ) (file : List ℕ) (h : State) → Left slots file h → h.safe ≡ last_scn h.commits
-all_low slots _ _ (fresh l log file new h opens) = subst (λ (x : State). x.safe ≡ last_scn x.commits) (sym opens) (omega arith)
-all_low slots _ _ (later before first was now extends books n low file r h opens) = subst (λ (x : State). x.safe ≡ last_scn x.commits) (sym opens) (omega arith)
+all_low : (slots : ℕ) (file : List ℕ) (h : State) (lsn : ℕ) → Left slots file h lsn → h.safe ≡ last_scn h.commits
+all_low slots _ _ _ (fresh l log file new h opens lsn none) = subst (λ (x : State). x.safe ≡ last_scn x.commits) (sym opens) (omega arith)
+all_low slots _ _ _ (later before first number was now extends books n low file r h opens lsn last) = subst (λ (x : State). x.safe ≡ last_scn x.commits) (sym opens) (omega arith)
 
-module _ (slots : ℕ) (before : List ℕ) (h : State) (is : Left slots before h) where
+module _ (slots : ℕ) (before : List ℕ) (h : State) (number : ℕ) (is : Left slots before h number) where
   has_rows : (now : State) → Extends h now → (books : List Book) (n : ℕ) → last_scn h.commits ≤ n → (file : List ℕ) → RestartsAt Opens (Some slots) books now n file → HasRows slots books now n file
   has_rows now extends books n low file r = record {
     found = books_of now.shape r.blocks;
     marks = marks_found slots n books now file r;
-    left = later before h is now extends books n low file r _ refl;
+    lsn = r.lsn + owed_in now.shape r.blocks;
+    left = later before h number is now extends books n low file r _ refl _ refl;
   }
 
   -- all commits of the state that such a file opens to are acknowledged
   low : h.safe ≡ last_scn h.commits
-  low = all_low slots before h is
+  low = all_low slots before h number is
 
   -- with a commit more
   more : (now : State) (s : ℕ) → Extends h now → Extends h (with_commit now s)
@@ -142,6 +148,7 @@ module _ (slots : ℕ) (before : List ℕ) (h : State) (is : Left slots before h
   module _ {D : Type 0} (d : DiskGhosts D) (old new : D) where
     leaves : (now : Logged) → Extends h now.state → Leaves d old new (λ c. d.image old c ⊎ OnTheWay Opens (Some slots) now.fault h now.state c) → ((c : List ℕ) → d.image new c → AtEnd Opens (Some slots) now.fault now.state c) → LeavesFiles d old new slots h now
     leaves now e any end = record {
+      extends = e;
       any_moment = weaker d.moment d.image_since old new (λ c. d.image old c ⊎ OnTheWay Opens (Some slots) now.fault h now.state c) (λ c. d.image old c ⊎ FoundBetween (HasRows slots) now.fault h now.state c)
           (λ c p. ⊎_elim (λ was. inl was) (λ way. inr (between now.fault now.state e c way)) p) any;
       now_only = λ c here. ends now.fault now.state e c (end c here);
@@ -156,7 +163,7 @@ module _ (slots : ℕ) (before : List ℕ) (h : State) (is : Left slots before h
         leaves now extends any end
 
     -- an opening that was stopped
-    pub leaves_same : (w : OpensWith slots (d.content old) h) → OpensSame d old new w.sound → LeavesSame d old new slots h
+    pub leaves_same : (w : OpensWith slots (d.content old) h number) → OpensSame d old new w.sound → LeavesSame d old new slots h
     leaves_same w same =
         let P : List ℕ → Type 0 = λ c. d.image old c ⊎ Restarts Opens (Some slots) h c in
         let moved : Leaves d old new P = subst (λ (z : State). Leaves d old new (λ c. d.image old c ⊎ Restarts Opens (Some slots) z c)) w.state
@@ -169,26 +176,24 @@ module _ (slots : ℕ) (before : List ℕ) (h : State) (is : Left slots before h
         (λ c p. ⊎_elim (λ was. inl was) (λ r. inr (last c r)) p) moved
 
     -- lines that were done over it
-    pub runs_over : (w : OpensWith slots (d.content old) h) (first : FirstBlocks w.sound) (lines : List (List ℕ)) (tells : Type 0) (held_before held_now : List ℕ) (now : Logged)
-        → Ran engine_outside (first_of w.sound first) now lines tells held_before held_now → Endures d old new w.sound.store.layout w.sound.state now
-        → RunsOver d old new slots h lines tells held_before held_now
-    runs_over w blocks lines tells held_before held_now now ran e =
+    pub runs_over : (w : OpensWith slots (d.content old) h number) (first : FirstBlocks w.sound) (fault : Bool) (lines : List (List ℕ)) (tells : Type 0) (held_before held_now : List ℕ) (now : Logged)
+        → Ran engine_outside (first_of w.sound first) now lines tells held_before held_now → now.state.stopped ≡ fault → Endures d old new w.sound.store.layout w.sound.state now
+        → RunsOver d old new slots h number fault lines tells held_before held_now
+    runs_over w blocks fault lines tells held_before held_now now ran stops e =
         let first = first_of w.sound blocks in
         record {
-          lsn = first.lsn;
           blocks = first.blocks;
           now = now;
-          ran = subst (λ (z : State). Ran plain (record { state = z; lsn = first.lsn; fault = None; blocks = first.blocks }) now lines tells held_before held_now) w.state
-              (ran_plain engine_outside first now lines tells held_before held_now ran);
+          ran = subst (λ (z : State). Ran plain (at_start z number first.blocks) now lines tells held_before held_now) w.state
+              (subst (λ (k : ℕ). Ran plain (at_start w.sound.state k first.blocks) now lines tells held_before held_now) w.number
+              (ran_plain engine_outside first now lines tells held_before held_now ran));
+          stops = stops;
           leaves = leaves_by now w.sound.store.layout w.sound.state w.state w.log e;
         }
 
-    -- to the end of the script
-    pub runs_to_end : (w : OpensWith slots (d.content old) h) (first : FirstBlocks w.sound) (lines : List (List ℕ)) (tells : Type 0) (held_before held_now : List ℕ) (now : Logged)
-        → Ran engine_outside (first_of w.sound first) now lines tells held_before held_now → Lasts d old new w.sound.store.layout w.sound.state now
-        → RunsToEnd d old new slots h lines tells held_before held_now
-    unfolding runs_over
-    runs_to_end w blocks lines tells held_before held_now now ran e =
+    -- what waits was made last: the files have all commits
+    have_all : (w : OpensWith slots (d.content old) h number) (now : Logged) → Lasts d old new w.sound.store.layout w.sound.state now → HaveAll d new slots now
+    have_all w now e =
         let before = subst (λ (z : State). Extends z now.state) w.state e.endured.extends in
         let extends : Extends h (all_safe now.state) = record {
           shape = before.shape;
@@ -198,25 +203,53 @@ module _ (slots : ℕ) (before : List ℕ) (h : State) (is : Left slots before h
           list = before.list;
           marks = before.marks;
           safe = let later = extends_later h now.state before in let same = low in omega (arith, later, same);
-        } in record {
-          over = runs_over w blocks lines tells held_before held_now now ran e.endured;
-          all = λ c here. some_rows now.state.books (all_safe now.state) extends c
-              (subst (λ (k : ℕ). Restarts Opens (Some k) (all_safe now.state) c) w.log (e.last c here).commits);
+        } in λ c here. some_rows now.state.books (all_safe now.state) extends c
+        (subst (λ (k : ℕ). Restarts Opens (Some k) (all_safe now.state) c) w.log (e.last c here).commits)
+
+    -- to the end of the script
+    pub runs_to_end : (w : OpensWith slots (d.content old) h number) (first : FirstBlocks w.sound) (lines : List (List ℕ)) (tells : Type 0) (held_before held_now : List ℕ) (now : Logged)
+        → Ran engine_outside (first_of w.sound first) now lines tells held_before held_now → now.state.stopped ≡ false → Lasts d old new w.sound.store.layout w.sound.state now
+        → RunsToEnd d old new slots h number lines tells held_before held_now
+    unfolding runs_over
+    runs_to_end w blocks lines tells held_before held_now now ran going e = record {
+      over = runs_over w blocks false lines tells held_before held_now now ran going e.endured;
+      all = have_all w now e;
+    }
+
+    -- up to a fault of the disk
+    pub halts_over : (w : OpensWith slots (d.content old) h number) (first : FirstBlocks w.sound) (left left2 : List ℕ) (tells : Type 0) (held_before held_now : List ℕ) (now : Logged)
+        → Ran engine_outside (first_of w.sound first) now (lines_of left) tells held_before held_now → Halted engine_outside SCRIPT_BYTES (first_of w.sound first) now left left2 tells held_before held_now
+        → Endures d old new w.sound.store.layout w.sound.state now → HaltsOver d old new slots h number left left2 tells held_before held_now
+    unfolding runs_over
+    halts_over w blocks left left2 tells held_before held_now now ran halted e =
+        let first = first_of w.sound blocks in
+        record {
+          over = runs_over w blocks true (lines_of left) tells held_before held_now now ran halted.stopped e;
+          halted = subst (λ (z : State). Halted plain SCRIPT_BYTES (at_start z number first.blocks) now left left2 tells held_before held_now) w.state
+              (subst (λ (k : ℕ). Halted plain SCRIPT_BYTES (at_start w.sound.state k first.blocks) now left left2 tells held_before held_now) w.number
+              (halted_plain engine_outside first now SCRIPT_BYTES left left2 tells held_before held_now halted));
         }
 
-    pub is_cut_over : (w : OpensWith slots (d.content old) h) (first : FirstBlocks w.sound) (left left2 held_before held_now : List ℕ) (now : Logged)
+    pub is_cut_over : (w : OpensWith slots (d.content old) h number) (first : FirstBlocks w.sound) (left left2 held_before held_now : List ℕ) (now : Logged)
         → CutOff engine_outside SCRIPT_BYTES (first_of w.sound first) now left left2 held_before held_now → Endures d old new w.sound.store.layout w.sound.state now
-        → IsCutOver d old new slots h left left2 held_before held_now
+        → IsCutOver d old new slots h number left left2 held_before held_now
     is_cut_over w blocks left left2 held_before held_now now cut e =
         let first = first_of w.sound blocks in
         record {
-          lsn = first.lsn;
           blocks = first.blocks;
           now = now;
-          cut = subst (λ (z : State). CutOff plain SCRIPT_BYTES (record { state = z; lsn = first.lsn; fault = None; blocks = first.blocks }) now left left2 held_before held_now) w.state
-              (cut_plain engine_outside first now SCRIPT_BYTES left left2 held_before held_now cut);
+          cut = subst (λ (z : State). CutOff plain SCRIPT_BYTES (at_start z number first.blocks) now left left2 held_before held_now) w.state
+              (subst (λ (k : ℕ). CutOff plain SCRIPT_BYTES (at_start w.sound.state k first.blocks) now left left2 held_before held_now) w.number
+              (cut_plain engine_outside first now SCRIPT_BYTES left left2 held_before held_now cut));
           leaves = leaves_by now w.sound.store.layout w.sound.state w.state w.log e;
         }
 
-    pub leaves_some : (w : OpensWith slots (d.content old) h) → LeftBehind d old new w.sound → LeavesSome d old new slots h
+    pub leaves_some : (w : OpensWith slots (d.content old) h number) → LeftBehind d old new w.sound → LeavesSome d old new slots h
     leaves_some w left = record { now = left.now; leaves = leaves_by left.now w.sound.store.layout w.sound.state w.state w.log left.endured }
+
+    pub leaves_all : (w : OpensWith slots (d.content old) h number) → LastsBehind d old new w.sound → LeavesAll d old new slots h
+    leaves_all w left = record {
+      now = left.now;
+      leaves = leaves_by left.now w.sound.store.layout w.sound.state w.state w.log left.lasted.endured;
+      all = have_all w left.now left.lasted;
+    }

@@ -1,5 +1,5 @@
 -- A new file opens with no commit and no row.
-use Rattle.std.proofs.Common.{◌≡◌, ◌<◌, ◌≤◌, ◌-◌, ◌*◌, ◌/◌, ◌%◌, ◌==◌, ℕ, zero, suc, Bool, nat_lt, false, if◌then◌else◌, List, [], ◌++◌, length, replicate, get_or, refl, sym, ◌∙◌, ap, subst, arith}
+use Rattle.std.proofs.Common.{◌≡◌, ◌<◌, ◌≤◌, ◌+◌, ◌-◌, ◌*◌, ◌/◌, ◌%◌, ◌==◌, ℕ, zero, suc, Bool, nat_lt, false, if◌then◌else◌, List, [], ◌++◌, length, replicate, get_or, refl, sym, ◌∙◌, ap, subst, arith}
 use Rattle.std.proofs.Math.Nat.{div-add-mod, mul-mod_right}
 use Rattle.std.proofs.lemmas.Bool.{le-ltb}
 use Rattle.std.proofs.lemmas.List.{length-replicate}
@@ -151,6 +151,11 @@ new_file l =
       },
       refl,
     )
+
+-- no group has a number, and nothing is owed
+pub new_number : (l : Layout) → (new_file l).0.store.lsn + owed_in (shape_of (new_file l).0.store.layout) (new_file l).0.store.blocks ≡ 0
+unfolding new_file
+new_number l = ap (λ (k : ℕ). 0 + k) (none_owed (shape_of l))
 
 pub new_log : (l : Layout) → (new_file l).0.store.layout.log ≡ l.log
 unfolding new_file

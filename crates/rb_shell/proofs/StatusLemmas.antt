@@ -146,6 +146,18 @@ format_source NotAStore ends = absurd ends
 format_source NoMemory ends = refl
 format_source TooLong ends = absurd ends
 
+-- one that asked for nothing, with memory enough, found bytes
+pub format_refused : (s : Status) → EndsFormat s → s ≢ NoMemory → AsksNothing s → s ≡ NotEmpty
+format_refused NotEmpty ends memory none = refl
+format_refused NoMemory ends memory none = absurd (memory refl)
+format_refused Done ends memory none = absurd none
+format_refused DiskFault ends memory none = absurd none
+format_refused Usage ends memory none = absurd ends
+format_refused SourceFault ends memory none = absurd ends
+format_refused SinkFault ends memory none = absurd ends
+format_refused NotAStore ends memory none = absurd ends
+format_refused TooLong ends memory none = absurd ends
+
 pub format_sink : (s : Status) → EndsFormat s → by_sink s ≡ false
 format_sink Done ends = refl
 format_sink DiskFault ends = refl

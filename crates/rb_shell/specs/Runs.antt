@@ -157,6 +157,11 @@ pub record LeftBehind {D : Type 0} (d : DiskGhosts D) (old new : D) (sound : IsS
   pub now : Logged
   pub endured : Endures d old new sound.store.layout sound.state now
 
+-- The same where what waits was made last: a crash leaves all that the machine did.
+pub record LastsBehind {D : Type 0} (d : DiskGhosts D) (old new : D) (sound : IsSound (d.content old)) : Type 0 where
+  pub now : Logged
+  pub lasted : Lasts d old new sound.store.layout sound.state now
+
 -- An engine was opened over the file of a disk, whose log it goes on with, and stands for the state to which the file
 -- opens, with what was under way put back in its blocks. A crash from then on leaves no image of before: each that it
 -- may leave now restarts to that state.
@@ -180,10 +185,12 @@ pub record MadeLast {S : Type 0} (s : Ghosts S) (old new : S) (m : Logged) (stat
   pub crash : (fault : Option Call) → s.keeps → Survives s (s.slots old) fault m.state m.state old new
   pub last : s.keeps → status ≡ Done → (i : s.image) → s.left new i → IsWhole s.opens (s.slots old) m i
 
--- Some lines were done over a store: a crash leaves no more than the states before and after them.
-pub record PassedOn {S : Type 0} (s : Ghosts S) (old new : S) (before : Logged) : Type 0 where
+-- Some lines were done over a store: a crash leaves no more than the states before and after them, and where the status
+-- says that all is well, all of the state after them, to the last group.
+pub record PassedOn {S : Type 0} (s : Ghosts S) (old new : S) (before : Logged) (status : Status) : Type 0 where
   pub now : Logged
   pub crash : s.keeps → Survives s (s.slots old) now.fault before.state now.state old new
+  pub last : s.keeps → status ≡ Done → (i : s.image) → s.left new i → IsWhole s.opens (s.slots old) now i
 
 -- Lines were done over a store, from one state to another. They ended as a status says, and where all is well a crash
 -- leaves them to the last group.

@@ -13,14 +13,15 @@ ghost use Rattle.rb_shell.specs.Generation.{HasTold, MadeOver, WasNotTold};
 ghost use Rattle.rb_shell.specs.Statuses.{EndsGenerator, TellsCounts};
 ghost use Rattle.rb_shell.specs.Runs.{IsSound, IsStore, HasHalted, HasRun, WasCutOff, Endures};
 ghost use Rattle.rb_store.specs.Openings.{LeftAlone};
-ghost use Rattle.rb_shell.specs.Runs.{EnduresCounted, HasRunOut, Lasts, LeftBehind, OpensSame, WasStopped, WasTaken};
+ghost use Rattle.rb_shell.specs.Runs.{EnduresCounted, HasRunOut, Lasts, LastsBehind, LeftBehind, OpensSame, WasStopped};
+ghost use Rattle.rb_shell.specs.Runs.{WasTaken};
 ghost use Rattle.rb_shell.specs.Statuses.{EndsRun, AsksScript, AsksNothing, IsDoneOrNoMemory};
 ghost use Rattle.rb_shell.specs.Statuses.{EndsFormat, by_disk, by_sink, by_source};
 ghost use Rattle.rb_model.specs.State.{State, opened};
 ghost use Rattle.rb_layout.specs.Regions.{shape_of};
 ghost use Rattle.rb_shell.specs.Left.{Left};
 ghost use Rattle.rb_shell.specs.NewBooks.{new_books};
-ghost use Rattle.rb_shell.specs.Over.{IsCutOver, LeavesSame, LeavesSome, RunsOver, RunsToEnd};
+ghost use Rattle.rb_shell.specs.Over.{HaltsOver, IsCutOver, LeavesAll, LeavesSame, LeavesSome, RunsOver, RunsToEnd};
 ghost use Rattle.rb_words.specs.Words.{AsksFormat, AsksGen, AsksRun, IsUsage};
 
 use crate::generation::run_generator;
@@ -107,9 +108,12 @@ pub fn run<S: Source, K: Sink, D: Disk>(
         → WasCutOff sound (S.left source.old) (S.left source.new) (K.held sink.old) (K.held sink.new)
         (EnduresCounted D.Disk disk result.1) }
 
-    // Whatever the source tells: a crash leaves a state of the machine's, from that to which the file opens on.
+    // Whatever the source tells: a crash leaves a state of the machine's, from that to which the file opens on; and
+    // where all is well, all that it did.
     ensures endures { D.tells → (n : ℕ) → AsksRun words.now n → AsksScript result.0
         → (sound : IsSound (D.content disk)) → LeftBehind D.Disk disk result.1 sound }
+    ensures endures_done { D.tells → (n : ℕ) → AsksRun words.now n → result.0 ≡ Status.Done
+        → (sound : IsSound (D.content disk)) → LastsBehind D.Disk disk result.1 sound }
     ensures endures_disk { D.tells → (n : ℕ) → AsksRun words.now n → result.0 ≡ Status.DiskFault
         → (sound : IsSound (D.content disk))
         → OpensSame D.Disk disk result.1 sound ⊎ LeftBehind D.Disk disk result.1 sound }
@@ -133,38 +137,68 @@ pub fn run<S: Source, K: Sink, D: Disk>(
         → IsStore (D.content disk) }
 
     // The same without a word of what a sound file is: a new file is `Left`, and over each such file the replies are
-    // those of the machine that opens with its state, and each file that is left behind is such a one again.
+    // those of the machine that opens with its state and log number, and each file that is left behind is such a one
+    // again, with the rows of a state that comes of this one.
     ensures left_new { D.tells → (l : Layout) → AsksFormat words.now l → result.0 ≡ Status.Done
         → (file : List ℕ) → D.image result.1 file
-        → Left l.log file (opened (shape_of l) 0 [] (new_books (shape_of l))) }
+        → Left l.log file (opened (shape_of l) 0 [] (new_books (shape_of l))) 0 }
     ensures left { D.tells → S.tells → (n : ℕ) → AsksRun words.now n → result.0 ≡ Status.Done
-        → (slots : ℕ) (h : State) → Left slots (D.content disk) h
-        → RunsToEnd D.Disk disk result.1 slots h (lines_of (S.left source.old)) K.tells (K.held sink.old)
+        → (slots : ℕ) (h : State) (lsn : ℕ) → Left slots (D.content disk) h lsn
+        → RunsToEnd D.Disk disk result.1 slots h lsn (lines_of (S.left source.old)) K.tells (K.held sink.old)
         (K.held sink.new) }
     ensures left_source { D.tells → S.tells → result.0 ≡ Status.SourceFault
-        → (slots : ℕ) (h : State) → Left slots (D.content disk) h
+        → (slots : ℕ) (h : State) (lsn : ℕ) → Left slots (D.content disk) h lsn
         → ((taken : List ℕ) × (S.left source.old ≡ taken ++ S.left source.new)
-        × RunsOver D.Disk disk result.1 slots h (whole_lines taken) K.tells (K.held sink.old) (K.held sink.new)) }
+        × RunsOver D.Disk disk result.1 slots h lsn false (whole_lines taken) K.tells (K.held sink.old)
+        (K.held sink.new)) }
     ensures left_long { D.tells → S.tells → result.0 ≡ Status.TooLong
-        → (slots : ℕ) (h : State) → Left slots (D.content disk) h
+        → (slots : ℕ) (h : State) (lsn : ℕ) → Left slots (D.content disk) h lsn
         → ((taken : List ℕ) × (length taken ≡ 1000000000) × (S.left source.old ≡ taken ++ S.left source.new)
-        × RunsOver D.Disk disk result.1 slots h (whole_lines taken) K.tells (K.held sink.old) (K.held sink.new)) }
+        × RunsOver D.Disk disk result.1 slots h lsn false (whole_lines taken) K.tells (K.held sink.old)
+        (K.held sink.new)) }
+    // A fault of the disk came in the opening, in a line, or behind all lines.
     ensures left_disk { D.tells → S.tells → (n : ℕ) → AsksRun words.now n → result.0 ≡ Status.DiskFault
-        → (slots : ℕ) (h : State) → Left slots (D.content disk) h
+        → (slots : ℕ) (h : State) (lsn : ℕ) → Left slots (D.content disk) h lsn
         → ((source.new ≡ source.old) × (sink.new ≡ sink.old) × LeavesSame D.Disk disk result.1 slots h)
-        ⊎ RunsOver D.Disk disk result.1 slots h (lines_of (S.left source.old)) K.tells (K.held sink.old)
-        (K.held sink.new) }
+        ⊎ (HaltsOver D.Disk disk result.1 slots h lsn (S.left source.old) (S.left source.new) K.tells
+        (K.held sink.old) (K.held sink.new)
+        ⊎ ((S.left source.new ≡ []) × RunsOver D.Disk disk result.1 slots h lsn false
+        (lines_of (S.left source.old)) K.tells (K.held sink.old) (K.held sink.new))) }
     ensures left_cut { D.tells → S.tells → K.tells → (n : ℕ) → AsksRun words.now n
-        → result.0 ≡ Status.SinkFault → (slots : ℕ) (h : State) → Left slots (D.content disk) h
-        → IsCutOver D.Disk disk result.1 slots h (S.left source.old) (S.left source.new) (K.held sink.old)
+        → result.0 ≡ Status.SinkFault
+        → (slots : ℕ) (h : State) (lsn : ℕ) → Left slots (D.content disk) h lsn
+        → IsCutOver D.Disk disk result.1 slots h lsn (S.left source.old) (S.left source.new) (K.held sink.old)
         (K.held sink.new) }
+    // Whatever the source and the sink tell.
     ensures left_some { D.tells → (n : ℕ) → AsksRun words.now n → AsksScript result.0
-        → (slots : ℕ) (h : State) → Left slots (D.content disk) h → LeavesSome D.Disk disk result.1 slots h }
+        → (slots : ℕ) (h : State) (lsn : ℕ) → Left slots (D.content disk) h lsn
+        → LeavesSome D.Disk disk result.1 slots h }
+    ensures left_done { D.tells → (n : ℕ) → AsksRun words.now n → result.0 ≡ Status.Done
+        → (slots : ℕ) (h : State) (lsn : ℕ) → Left slots (D.content disk) h lsn
+        → LeavesAll D.Disk disk result.1 slots h }
     ensures left_gen { D.tells → (n : ℕ) → AsksGen words.now n → TellsCounts result.0
-        → (slots : ℕ) (h : State) → Left slots (D.content disk) h → LeavesSome D.Disk disk result.1 slots h }
+        → (slots : ℕ) (h : State) (lsn : ℕ) → Left slots (D.content disk) h lsn
+        → LeavesAll D.Disk disk result.1 slots h }
     ensures left_fault { D.tells → result.0 ≡ Status.DiskFault → ((l : Layout) → ¬ AsksFormat words.now l)
-        → (slots : ℕ) (h : State) → Left slots (D.content disk) h
+        → (slots : ℕ) (h : State) (lsn : ℕ) → Left slots (D.content disk) h lsn
         → LeavesSame D.Disk disk result.1 slots h ⊎ LeavesSome D.Disk disk result.1 slots h }
+    // Where nothing was asked for, whatever the words. Such a file is always a store; and where no fault comes, all
+    // is done, unless memory runs out.
+    ensures left_alone { D.tells → AsksNothing result.0
+        → (slots : ℕ) (h : State) (lsn : ℕ) → Left slots (D.content disk) h lsn
+        → LeavesSame D.Disk disk result.1 slots h }
+    ensures left_store { D.tells → result.0 ≡ Status.NotAStore
+        → (slots : ℕ) (h : State) (lsn : ℕ) → ¬ Left slots (D.content disk) h lsn }
+    ensures left_complete { D.tells → S.tells → (n : ℕ) → AsksRun words.now n
+        → (slots : ℕ) (h : State) (lsn : ℕ) → Left slots (D.content disk) h lsn
+        → length (S.left source.old) < 1000000000
+        → ¬ Rose (S.faults source.old) (S.faults source.new) → ¬ Rose (D.faults disk) (D.faults result.1)
+        → ¬ Rose (K.faults sink.old) (K.faults sink.new)
+        → IsDoneOrNoMemory result.0 }
+    ensures left_complete_gen { D.tells → (n : ℕ) → AsksGen words.now n
+        → (slots : ℕ) (h : State) (lsn : ℕ) → Left slots (D.content disk) h lsn
+        → ¬ Rose (D.faults disk) (D.faults result.1) → ¬ Rose (K.faults sink.old) (K.faults sink.new)
+        → IsDoneOrNoMemory result.0 }
 
     // Where the script isn't asked for, the file opens as before. It is asked for just where the file is a store.
     ensures source_same { AsksNothing result.0 → source.new ≡ source.old }

@@ -11,7 +11,7 @@ ghost use Rattle.rb_shell.specs.Generation.{WasNotTold};
 ghost use Rattle.rb_shell.specs.Runs.{Endures, IsSound, IsStore, Lasts};
 ghost use Rattle.rb_store.specs.Openings.{LeftAlone};
 ghost use Rattle.rb_shell.specs.Statuses.{AsksNothing};
-ghost use Rattle.rb_shell.specs.Runs.{LeftBehind, OpensSame, WasStopped};
+ghost use Rattle.rb_shell.specs.Runs.{LastsBehind, LeftBehind, OpensSame, WasStopped};
 ghost use Rattle.rb_shell.specs.Statuses.{by_disk, by_sink};
 ghost use Rattle.rb_stream.specs.StreamModel.{Puts};
 
@@ -98,7 +98,7 @@ pub fn run_generator<K: Sink, D: Disk>(
 
     // What a crash leaves, whatever the sink tells.
     ensures endures { D.tells → TellsCounts result.0 → (sound : IsSound (D.content disk))
-        → LeftBehind D.Disk disk result.1 sound }
+        → LastsBehind D.Disk disk result.1 sound }
     ensures endures_disk { D.tells → result.0 ≡ Status.DiskFault → (sound : IsSound (D.content disk))
         → OpensSame D.Disk disk result.1 sound ⊎ LeftBehind D.Disk disk result.1 sound }
 

@@ -12,7 +12,7 @@ ghost use Rattle.rb_shell.specs.Runs.{WasStopped, WasTaken};
 ghost use Rattle.rb_store.specs.Openings.{LeftAlone};
 ghost use Rattle.rb_shell.specs.Statuses.{EndsRun, AsksScript, AsksNothing};
 ghost use Rattle.rb_shell.specs.Runs.{Endures, EnduresCounted, EndsBy, Lasts, LeftBehind, MadeLast};
-ghost use Rattle.rb_shell.specs.Runs.{OpensSame, PassedOn};
+ghost use Rattle.rb_shell.specs.Runs.{LastsBehind, OpensSame, PassedOn};
 ghost use Rattle.rb_shell.specs.Statuses.{by_disk, by_sink, by_source, status_of, status_of_opening};
 
 use crate::line::do_line;
@@ -136,7 +136,7 @@ fn run_engine<S: Source, K: Sink, T: Store>(
         → RanOn T.Store engine.store result.1 engine_outside SCRIPT_BYTES m (S.left source.old)
         (S.left source.new) K.tells (K.held sink.old) (K.held sink.new) result.0 }
     ensures passed { (m : Logged) → StandsAs T.Store engine m → m.state.stopped ≡ false
-        → PassedOn T.Store engine.store result.1 m }
+        → PassedOn T.Store engine.store result.1 m result.0 }
     ensures ends { EndsRun result.0 }
     ensures asks { ¬ AsksNothing result.0 }
     ensures at_end { result.0 ≡ Status.Done → S.tells → S.left source.new ≡ [] }
@@ -225,6 +225,8 @@ pub fn run_script<S: Source, K: Sink, D: Disk>(
     // What a crash leaves, whatever the source tells.
     ensures endures { D.tells → AsksScript result.0 → (sound : IsSound (D.content disk))
         → LeftBehind D.Disk disk result.1 sound }
+    ensures endures_done { D.tells → result.0 ≡ Status.Done → (sound : IsSound (D.content disk))
+        → LastsBehind D.Disk disk result.1 sound }
     ensures endures_disk { D.tells → result.0 ≡ Status.DiskFault → (sound : IsSound (D.content disk))
         → OpensSame D.Disk disk result.1 sound ⊎ LeftBehind D.Disk disk result.1 sound }
 

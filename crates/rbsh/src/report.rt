@@ -1,8 +1,9 @@
 //! What is written beside the replies: why a run ended as it did, and what the program says of itself. `main` calls it.
 ghost use Rattle.std.specs.Prelude.{◌≡◌};
 
-use rb_filedisk::Cause;
+use crate::usage::Fault;
 use rb_layout::VERSION;
+use rb_rawfile::Cause;
 use rb_shell::Status;
 use rb_words::Question;
 use std::fmt::{self, Display, Formatter, Write};
@@ -25,6 +26,8 @@ pub struct Ended<'a> {
     pub status: Status,
     /// The file that the first word names.
     pub file: &'a str,
+    /// Which word is wrong, where the words have none of the forms.
+    pub fault: Option<Fault<'a>>,
     /// Of the script's source, the file and the replies' sink: why the last call that failed did so.
     pub source: Option<io::Error>,
     pub disk: Option<Cause>,
@@ -39,6 +42,7 @@ impl<'a> Ended<'a> {
         Ended {
             status,
             file: "",
+            fault: None,
             source: None,
             disk: None,
             sink: None,
@@ -46,9 +50,9 @@ impl<'a> Ended<'a> {
     }
 }
 
-// A name in one line: what would end the line, or command a terminal, is shown as a question mark.
+/// A word in one line: what would end the line, or command a terminal, is shown as a question mark.
 #[derive(Clone, Copy)]
-struct OneLine<'a>(&'a str);
+pub struct OneLine<'a>(pub &'a str);
 
 impl Display for OneLine<'_> {
     fn fmt<W: Write>(&self, f: &mut Formatter<W>) -> fmt::Result {
@@ -80,7 +84,10 @@ pub fn report(rt: &HostRuntime, ended: &Ended<'_>) -> io::Result<()> {
     match ended.status {
         Status::Done => Ok(()),
         Status::Usage => {
-            eprintln!(rt; "{name}: the words have none of these forms")?;
+            match ended.fault {
+                Some(fault) => eprintln!(rt; "{name}: {fault}")?,
+                None => eprintln!(rt; "{name}: the words have none of these forms")?,
+            }
             eprintln!(rt; "{FORMS}\n{RANGES}")
         }
         Status::SourceFault => eprintln!(rt; "{name}: standard input: {}", Known(ended.source)),

@@ -3,15 +3,16 @@
 ghost use Rattle.std.specs.Prelude.{[]};
 
 use rb_disk::Disk;
-use rb_filedisk::{Cause, FileDisk, RawFile};
+use rb_filedisk::FileDisk;
+use rb_rawfile::{Cause, RawFile};
 use std::cell::Cell;
 use std::io::{self, ErrorKind};
 use std::process::Abort;
 use std::test::Fail;
 
-const SIZE: usize = 8;
+const SIZE: usize = 300;
 
-/// A file of up to eight bytes that fails at the calls of these numbers, from 1.
+/// A file of up to so many bytes that fails at the calls of these numbers, from 1.
 #[derive(Drop)]
 struct LossyFile<'a> {
     // What it reads as, and which of it was written since the last sync.
@@ -78,6 +79,8 @@ impl<'a> RawFile for LossyFile<'a> {
 
     ghost lost = { λ file place. ⊥ };
 
+    ghost faults = { λ file. 0 };
+
     ghost loses_unsettled = { λ file place told gone. absurd told };
 
     ghost fits = { λ file told. absurd told };
@@ -138,7 +141,7 @@ fn settles_at(rt: &impl Abort, failing: &[u64], syncs: u64) -> Result<(), Fail> 
         assert!(rt; disk.sync().is_err());
     }
     disk.sync()?;
-    assert!(rt; device.get() == *b"abcd\0\0\0\0");
+    assert!(rt; device.get().starts_with(b"abcd\0"));
     let mut bytes = [0; 4];
     disk.read_at(0, &mut bytes)?;
     assert!(rt; bytes == *b"abcd");
@@ -171,6 +174,42 @@ fn syncs_the_data_alone_within_the_length(rt: HostRuntime) -> Result<(), Fail> {
     // The sync is one call, which fails, and three write again. The next one is one call too.
     assert!(rt; disk.sync().is_err());
     disk.sync()?;
-    assert!(rt; device.get() == *b"aXYd\0\0\0\0");
+    assert!(rt; device.get().starts_with(b"aXYd\0"));
+    Ok(())
+}
+
+#[test]
+fn settles_what_was_written_before(rt: HostRuntime) -> Result<(), Fail> {
+    // A run is killed behind its write, and the first sync of the next one fails.
+    let device = Cell::new([0; SIZE]);
+    let mut killed = FileDisk::over(LossyFile::on(&device, &[3]));
+    killed.write_at(0, b"abcd")?;
+    let mut disk = FileDisk::over(killed.into_file());
+    assert!(rt; disk.sync().is_err());
+    disk.sync()?;
+    assert!(rt; device.get().starts_with(b"abcd\0"));
+    Ok(())
+}
+
+#[test]
+fn settles_more_writes_than_it_has_ranges(rt: HostRuntime) -> Result<(), Fail> {
+    let device = Cell::new([0; SIZE]);
+    let mut disk = FileDisk::over(LossyFile::on(&device, &[144]));
+    disk.write_at(0, &[b'a'; SIZE])?;
+    disk.sync()?;
+    // Of 140 bytes with one between, the last twelve and the gaps between them are one range.
+    for i in 0..140 {
+        disk.write_at(2 * i, b"x")?;
+    }
+    assert!(rt; disk.sync().is_err());
+    disk.sync()?;
+    for (place, byte) in device.get().iter().enumerate() {
+        let wanted = if place < 280 && place % 2 == 0 {
+            b'x'
+        } else {
+            b'a'
+        };
+        assert!(rt; *byte == wanted);
+    }
     Ok(())
 }

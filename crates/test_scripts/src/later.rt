@@ -312,12 +312,35 @@ fn stops(rt: HostRuntime) -> Result<(), NoMemory> {
     Ok(())
 }
 
-// Between two runs of the log a stop leaves the commits of the first alone.
+// A stop in a flush of two runs leaves all twenty commits or none of them. The last one is flushed at the end.
+fn check_whole(
+    rt: &impl Abort,
+    alloc: Global,
+    story: &Story,
+    file: &[u8],
+    call: u64,
+) -> Result<(), NoMemory> {
+    let stopped = run_stopped(alloc, file, story.script.as_bytes(), call)?;
+    for pick in PICKS {
+        if let Some(left) = image_now(alloc, &stopped.disk, pick)? {
+            let found = shown(alloc, story, &left)?;
+            let is_whole = matches!(found, Some(0 | 20 | 21));
+            assert!(rt; is_whole, "{call}, {pick:?}: {found:?}");
+        }
+    }
+    Ok(())
+}
+
 #[test]
-fn stops_between_two_runs(rt: HostRuntime) -> Result<(), NoMemory> {
+fn stops_in_two_runs(rt: HostRuntime) -> Result<(), NoMemory> {
     let story = story_of(rt.alloc(), &TWO_RUNS)?;
     let ahead = check_stops(&rt, rt.alloc(), &story, FORMAT_STOPS)?;
     assert!(rt; ahead > 0);
+    let file = formatted(rt.alloc(), FORMAT_STOPS)?;
+    let good = run_over(rt.alloc(), RUN, &file, story.script.as_bytes(), NONE)?;
+    for call in 1..=good.disk.calls() {
+        check_whole(&rt, rt.alloc(), &story, &file, call)?;
+    }
     Ok(())
 }
 

@@ -234,27 +234,17 @@ fn later_failures_behind_torn_writes(rt: HostRuntime) -> Result<(), NoMemory> {
     check_later_failures(&rt, rt.alloc(), Pick::Fill(1))
 }
 
-// The stops of openings behind those stops of the long transaction that left so many runs of the log.
-fn check_long(rt: &impl Abort, alloc: Global, runs: usize) -> Result<(), NoMemory> {
-    let story = long_transaction(alloc)?;
+// The stops of openings behind those stops of the long transaction that left its flush. The records of its 41 changes
+// lie in two extents, and what puts them back takes two runs of the log.
+#[test]
+fn stops_behind_a_long_transaction(rt: HostRuntime) -> Result<(), NoMemory> {
+    let story = long_transaction(rt.alloc())?;
     let mut wrote = false;
-    for image in &first_left(alloc, FORMAT_STOPS, &story, &[Pick::New])? {
-        if shown(alloc, &story, image)? == Some(runs) {
-            wrote |= check_stops_behind(rt, alloc, &story, image, EVERY)?;
+    for image in &first_left(rt.alloc(), FORMAT_STOPS, &story, &[Pick::New])? {
+        if shown(rt.alloc(), &story, image)? == Some(1) {
+            wrote |= check_stops_behind(&rt, rt.alloc(), &story, image, EVERY)?;
         }
     }
     assert!(rt; wrote);
     Ok(())
-}
-
-// What puts back 32 changes takes two runs of the log, of which the first may be there alone.
-#[test]
-fn stops_behind_first_run(rt: HostRuntime) -> Result<(), NoMemory> {
-    check_long(&rt, rt.alloc(), 1)
-}
-
-// The records of 41 changes lie in two extents.
-#[test]
-fn stops_behind_both_runs(rt: HostRuntime) -> Result<(), NoMemory> {
-    check_long(&rt, rt.alloc(), 2)
 }

@@ -118,29 +118,18 @@ struct Left {
     last: u8,
 }
 
-/// What so many runs of the log leave. The second commit takes two: the first has 32 of its patches, and no number.
-fn left_by(runs: u8) -> Left {
-    let (number, first, last) = match runs {
+/// What so many commits leave. The second one takes two runs of the log.
+fn left_by(commits: u8) -> Left {
+    let (number, first, last) = match commits {
         0 => (0, 0, 0),
         1 => (1, 1, 0),
-        2 => (1, 2, 0),
-        3 => (2, 2, 2),
+        2 => (2, 2, 2),
         _ => (3, 3, 2),
     };
     Left {
         number,
         first,
         last,
-    }
-}
-
-/// How many runs so many commits take.
-fn runs_of(commits: u8) -> u8 {
-    match commits {
-        0 => 0,
-        1 => 1,
-        2 => 3,
-        _ => 4,
     }
 }
 
@@ -238,32 +227,23 @@ fn one_list_of_calls(rt: HostRuntime) -> Result<(), Fail> {
     Ok(())
 }
 
-/// Whether what was found is what some number of runs leaves, from `least` to `most`.
-fn is_left(found: Option<Left>, least: u8, most: u8) -> bool {
-    for runs in least..=most {
-        if found == Some(left_by(runs)) {
-            return true;
-        }
-    }
-    false
-}
-
-/// After a stop behind so many calls each image has the commits that were made, and whole runs of the next one: an
-/// opening takes them too. Answers whether an image has the first run alone of the commit that takes two.
+/// After a stop behind so many calls each image has the commits that were made, and the next one whole or not at all.
+/// Answers whether an image has it.
 fn check_stop(rt: &impl Abort, alloc: Global, file: &[u8], calls: usize) -> Result<bool, NoMemory> {
     let stopped = stop_after(alloc, file, calls)?;
     let made = stopped.commits;
-    let most = runs_of(made.saturating_add(1));
-    let mut halved = false;
+    let kept = Some(left_by(made));
+    let next = Some(left_by(made.saturating_add(1)));
+    let mut ahead = false;
     for pick in PICKS {
         if let Some(left) = image_now(alloc, &stopped.disk, pick)? {
             let found = found(alloc, &left)?;
-            let right = is_left(found, runs_of(made), most);
+            let right = found == kept || found == next;
             assert!(rt; right, "{calls}, {pick:?}: {made} made, {found:?} found");
-            halved |= found == Some(left_by(2));
+            ahead |= found != kept;
         }
     }
-    Ok(halved)
+    Ok(ahead)
 }
 
 #[test]
@@ -271,12 +251,12 @@ fn stops_of_a_store(rt: HostRuntime) -> Result<(), Fail> {
     let file = new_file(rt.alloc())?;
     let good = stop_after(rt.alloc(), &file, CALLS)?;
     assert!(rt; good.commits == 3);
-    assert!(rt; found(rt.alloc(), good.disk.bytes()) == Ok(Some(left_by(4))));
-    let mut halved = false;
+    assert!(rt; found(rt.alloc(), good.disk.bytes()) == Ok(Some(left_by(3))));
+    let mut ahead = false;
     for calls in 1..=good.disk.calls() as usize {
-        halved |= check_stop(&rt, rt.alloc(), &file, calls)?;
+        ahead |= check_stop(&rt, rt.alloc(), &file, calls)?;
     }
-    assert!(rt; halved);
+    assert!(rt; ahead);
     Ok(())
 }
 
@@ -318,6 +298,6 @@ fn groups_behind_the_last_commit(rt: HostRuntime) -> Result<(), Fail> {
     assert!(rt; reopened.bytes() == disk.bytes());
     let again = stop_after(rt.alloc(), reopened.bytes(), CALLS)?;
     assert!(rt; again.commits == 3);
-    assert!(rt; found(rt.alloc(), again.disk.bytes()) == Ok(Some(left_by(4))));
+    assert!(rt; found(rt.alloc(), again.disk.bytes()) == Ok(Some(left_by(3))));
     Ok(())
 }

@@ -1899,7 +1899,7 @@ fn failed_end(rt: HostRuntime) -> Result<(), Fail> {
     Ok(())
 }
 
-// A stop between the write of a run's first gate and its sync.
+// A stop between the write of a flush's gate and its sync.
 #[test]
 fn gate_images(rt: HostRuntime) -> Result<(), Fail> {
     let file = formatted(rt.alloc(), FORMAT_SMALL)?;

@@ -232,8 +232,8 @@ const QUEUE_ROWS: &str = "1 row 1 a\n1 row 2 b\n1 row 3 c\n";
 // A transaction of more changes than one run of the log has, whose records lie in two extents: 40 and 1.
 const LONG: usize = 41;
 
-// The same after nothing, after the first run of the log, of 32 groups, and after the second.
-const LONG_LEFT: [(&str, u64, u64); 3] = [("", 0, 1), ("", 32, 1), ("", 41, 1)];
+// The same after nothing, and after its flush, which takes two runs of the log.
+const LONG_LEFT: [(&str, u64, u64); 2] = [("", 0, 1), ("", 41, 1)];
 
 // Shows the rows, the marks and that a session doesn't wait which may have done so, and goes on with one more commit,
 // which has the next number.

@@ -14,11 +14,9 @@ returns-clause-rests g c told =
     let count = length c.args.piece.now in
     let bytes = c.read_at.new.into in
     let same = c.read_at.ensures.content told in
-    let places = c.read_at.ensures.places told in
     rests_more f old mid new
-    (one_rest f old mid same (c.read_at.ensures.images told) (c.read_at.ensures.time told) places (c.read_at.ensures.losses told))
-    (written_again f mid new at count bytes (subst (λ (file : List ℕ). at + count ≤ length file) (sym same) (c.requires.within told))
+    (one_rest f old mid same (c.read_at.ensures.images told) (c.read_at.ensures.time told) (c.read_at.ensures.places told) (c.read_at.ensures.losses told))
+    (written_again f mid new at count bytes (subst (λ (file : List ℕ). at + count ≤ length file) (sym same) (c.requires told))
     (subst (λ (file : List ℕ). bytes ≡ part file at count) (sym same) (c.in_ok-read_at.ensures.value told)) c.read_at.auto.into
-    (λ place of. places.no_fewer place (c.requires.unsettled told place of))
     (began c.write_at.result at bytes (f.content mid) (f.content new) (f.lost mid) (f.lost new) (c.write_at.ensures.written told) (c.write_at.ensures.begun told))
-    (c.write_at.ensures.again told) (c.write_at.ensures.time told) (c.write_at.ensures.places told))
+    (c.write_at.ensures.same told) (c.write_at.ensures.time told) (c.write_at.ensures.same_places told))

@@ -1,7 +1,7 @@
 use Rattle.std.proofs.Common.{◌≡◌, ◌≢◌, ◌∙◌, refl, ℕ, Bool, false, Some, inl, inr, sym, ap, subst}
 use Rattle.rb_model.specs.State.{State}
 use Rattle.rb_calls.specs.Since.{engine_outside}
-use Rattle.rb_shell.specs.Statuses.{AsksScript}
+use Rattle.rb_shell.specs.Statuses.{AsksScript, TellsCounts}
 use Rattle.rb_shell.proofs.GenerationLemmas.{no_counts, same_made}
 use Rattle.rb_shell.proofs.RunLemmas.{endures}
 use Rattle.rb_shell.specs.Generation.{HasMade, MadeOn}
@@ -58,7 +58,7 @@ returns-in-Ok-clause-cut_off g c = λ disk tells is sound.
 pub returns-in-Ok-clause-endures : goal.returns-in-Ok-clause-endures
 returns-in-Ok-clause-endures g c = λ disk tells sound.
     let a = (goal.at.returns-in-Ok-clause-endures g c).After-close in
-    record { now = (did g a disk sound).made.now; endured = endured g a disk sound }
+    record { now = (did g a disk sound).made.now; lasted = lasts g a disk sound (λ fault. subst TellsCounts fault tells) }
 
 pub returns-in-Ok-clause-endures_disk : goal.returns-in-Ok-clause-endures_disk
 returns-in-Ok-clause-endures_disk g c = λ disk is sound.

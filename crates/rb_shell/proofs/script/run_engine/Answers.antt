@@ -62,18 +62,25 @@ returns-clause-passed g c = λ m is going.
     let end = c.run_lines-end.result in
     let e = c.end_script-status.ensures in
     let d = c.run_lines-end.ensures.passed m is going in
-    let crash : s.keeps → Survives s (s.slots old) d.now.fault m.state d.now.state old new = ⊎_elim
+    let status = c.end_script-status.result in
+    let crash : (s.keeps → Survives s (s.slots old) d.now.fault m.state d.now.state old new) × (s.keeps → status ≡ statuses.Done → (i : s.image) → s.left new i → IsWhole s.opens (s.slots old) d.now i) = ⊎_elim
     (λ (done : end ≡ ends.Done).
     let on = d.ran done in
-    let made : MadeLast s mid new d.now c.end_script-status.result = e.lasts done d.now d.reached on in
-    λ kept. survives_on s (s.slots old) m.state d.now.state d.now.state old mid new on (d.passed.crash kept) (subst (λ (k : _). Survives s k d.now.fault d.now.state d.now.state mid new) d.passed.same.slots (made.crash d.now.fault kept)))
+    let made : MadeLast s mid new d.now status = e.lasts done d.now d.reached on in (
+      λ kept. survives_on s (s.slots old) m.state d.now.state d.now.state old mid new on (d.passed.crash kept) (subst (λ (k : _). Survives s k d.now.fault d.now.state d.now.state mid new) d.passed.same.slots (made.crash d.now.fault kept)),
+      λ kept fine i here. subst (λ (k : Option ℕ). IsWhole s.opens k d.now i) d.passed.same.slots (made.last kept fine i here),
+    ))
     (λ (other : end ≢ ends.Done).
-    let store : new ≡ mid = ap (λ x. x.store) (e.same other).1 in
-    λ kept. subst (λ x. Survives s (s.slots old) d.now.fault m.state d.now.state old x) (sym store) (d.passed.crash kept))
+    let same = e.same other in
+    let store : new ≡ mid = ap (λ x. x.store) same.1 in (
+      λ kept. subst (λ x. Survives s (s.slots old) d.now.fault m.state d.now.state old x) (sym store) (d.passed.crash kept),
+      λ kept fine i here. absurd (other (done_of end (sym same.0 ∙ fine))),
+    ))
     (cases_end end) in
     record {
       now = d.now;
-      crash = λ kept. subst (λ x. Survives s (s.slots old) d.now.fault m.state d.now.state old x) (sym c.close.ensures) (crash kept);
+      crash = λ kept. subst (λ x. Survives s (s.slots old) d.now.fault m.state d.now.state old x) (sym c.close.ensures) (crash.0 kept);
+      last = λ kept fine i here. crash.1 kept fine i (subst (λ x. s.left x i) c.close.ensures here);
     }
 
 pub returns-clause-source : goal.returns-clause-source

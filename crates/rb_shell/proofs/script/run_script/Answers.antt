@@ -11,7 +11,7 @@ use Rattle.rb_calls.specs.Since.{engine_outside}
 use Rattle.rb_shell.specs.Runs.{IsSound, IsWhole, first_of}
 use Rattle.rb_store.specs.Meaning.{Opens}
 use Rattle.rb_store.specs.contracts.store.LogStoreStore.TheImpl.{ghosts}
-use Rattle.rb_shell.specs.Runs.{Endures, HasOpened, HasRun, Lasts, LeftBehind, PassedOn, RanOn}
+use Rattle.rb_shell.specs.Runs.{Endures, HasOpened, HasRun, Lasts, LastsBehind, LeftBehind, PassedOn, RanOn}
 use Rattle.rb_shell.specs.Statuses.{AsksNothing, by_disk, by_sink}
 use Rattle.rb_shell.specs.declared.status.Status.TheVariants.{Done}
 use Rattle.rb_shell.proofs.RunLemmas.{endures, has_halted, has_run, rests_alone, rests_itself, was_cut_off}
@@ -25,7 +25,7 @@ module _ (g : Over) (c : After-close g) (disk : g.D.Disk.tells) (sound : IsSound
   over : HasOpened g.D.Disk (ghosts g.row.D g.D.Disk g.D.Disk-dict) c.args.disk c.in-Ok-open_engine.engine sound
   over = c.in-Ok-open_engine.ensures.opened disk sound
 
-  passed : PassedOn (ghosts g.row.D g.D.Disk g.D.Disk-dict) c.in-Ok-open_engine.engine.store c.run_engine-status.result.1 (first_of sound over.first)
+  passed : PassedOn (ghosts g.row.D g.D.Disk g.D.Disk-dict) c.in-Ok-open_engine.engine.store c.run_engine-status.result.1 (first_of sound over.first) c.run_engine-status.result.0
   passed = c.run_engine-status.ensures.passed (first_of sound over.first) over.stands (ap (λ (h : State). h.stopped) sound.opening.state)
 
   left : LeftBehind g.D.Disk c.args.disk c.close.result sound
@@ -37,11 +37,29 @@ module _ (g : Over) (c : After-close g) (disk : g.D.Disk.tells) (sound : IsSound
             (endures g.D.Disk c.args.disk (ghosts g.row.D g.D.Disk g.D.Disk-dict) c.in-Ok-open_engine.engine passed.now c.run_engine-status.result.1.disk sound over v.extends (record { later = v.any_moment.later; each = v.any_moment.each; earlier = v.any_moment.earlier }) v.now_only);
       }
 
+  -- and where all is well, to the last group
+  all_left : c.run_engine-status.result.0 ≡ Done → LastsBehind g.D.Disk c.args.disk c.close.result sound
+  unfolding left
+  all_left fine = record {
+    now = left.now;
+    lasted = record {
+      endured = left.endured;
+      last = λ file here. subst (λ (k : ℕ). IsWhole Opens (Some k) passed.now file) over.slots
+          (passed.last disk fine file (subst (λ d. g.D.Disk.image d file) c.close.ensures here));
+    };
+  }
+
 pub returns-in-Ok-open_engine-clause-endures : goal.returns-in-Ok-open_engine-clause-endures
 returns-in-Ok-open_engine-clause-endures g c = λ disk asks sound. left g (goal.at.returns-in-Ok-open_engine-clause-endures g c).After-close disk sound
 
 pub returns-in-Ok-open_engine-clause-endures_disk : goal.returns-in-Ok-open_engine-clause-endures_disk
 returns-in-Ok-open_engine-clause-endures_disk g c = λ disk is sound. inr (left g (goal.at.returns-in-Ok-open_engine-clause-endures_disk g c).After-close disk sound)
+
+pub returns-in-Ok-open_engine-clause-endures_done : goal.returns-in-Ok-open_engine-clause-endures_done
+returns-in-Ok-open_engine-clause-endures_done g c = λ disk is sound. all_left g (goal.at.returns-in-Ok-open_engine-clause-endures_done g c).After-close disk sound is
+
+pub returns-clause-endures_done : goal.returns-clause-endures_done
+returns-clause-endures_done g c = λ disk is sound. absurd (c.status_of_fault.ensures.no_script (rw is tt))
 
 pub returns-clause-endures : goal.returns-clause-endures
 returns-clause-endures g c = λ disk asks sound. absurd (c.status_of_fault.ensures.no_script asks)

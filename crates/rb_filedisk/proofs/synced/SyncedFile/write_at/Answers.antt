@@ -1,12 +1,10 @@
-use Rattle.std.proofs.Common.{◌≤◌, List, length, sym, subst, ◌∙◌}
+use Rattle.std.proofs.Common.{◌≤◌, List, length, subst}
 use Rattle.std.specs.Prelude.{All}
-use Rattle.std.proofs.lemmas.Bool.{false≢true}
 use Rattle.rb_filedisk.specs.Unsynced.{ranges_of, written}
 use Rattle.rb_filedisk.specs.declared.unsynced.Range.{Range}
 use Rattle.rb_filedisk.proofs.ByteLemmas.{all_within, remembers_all}
 use Rattle.rb_filedisk.proofs.KeepLemmas.{began}
 use Rattle.rb_filedisk.proofs.SyncLemmas.{began_is_torn, in_step_written}
-use Rattle.rb_filedisk.proofs.synced.SyncedFile.write_at.Goals.{then-self, else-self}
 use Rattle.rb_filedisk.proofs.synced.SyncedFile.write_at.Goals as goal
 
 pub returns-clause-in_step : goal.returns-clause-in_step
@@ -16,21 +14,16 @@ returns-clause-in_step g c told =
     let new = c.write_at.new.self in
     let at = c.args.at in
     let bytes = c.args.bytes.now in
-    let now = ranges_of c.add-alone.new.self in
-    in_step_written f s.file new s.synced (ranges_of s.unsynced) now s.exact c.if-self.self s.stale at bytes (c.requires.in_step told)
+    let now = ranges_of c.add.new.self in
+    in_step_written f s.file new s.synced (ranges_of s.unsynced) now s.stale at bytes (c.requires.in_step told)
     (c.requires.begins told) (g.met.F.RawFile.fits s.file told) (g.met.F.RawFile.fits new told) (g.met.F.RawFile.reads_an_image s.file told)
     (began c.write_at.result at bytes (f.content s.file) (f.content new) (f.lost s.file) (f.lost new) (c.write_at.ensures.written told)
     (c.write_at.ensures.begun told))
     (c.write_at.ensures.images told) (c.write_at.ensures.places told)
-    (remembers_all at (length bytes) s.unsynced c.add-alone.new.self c.add-alone.ensures.with)
-    (λ is.
-    elim c.if-self.branch [
-      | then-self w ↦ (w.if-self.true, c.add-alone.ensures.exact (sym w.self-is ∙ is))
-      | else-self w ↦ absurd (false≢true (sym (w.self-is ∙ w.if-self.false) ∙ is))
-    ])
+    (remembers_all at (length bytes) s.unsynced c.add.new.self c.add.ensures)
     (λ count all.
     all_within _ (written at (length bytes)) (ranges_of s.unsynced) count
-    (subst (λ (ranges : List Range). All (λ range. range.end ≤ count) ranges) c.add-alone.ensures.with all))
+    (subst (λ (ranges : List Range). All (λ range. range.end ≤ count) ranges) c.add.ensures all))
 
 pub returns-clause-torn : goal.returns-clause-torn
 returns-clause-torn g c told =

@@ -1,15 +1,14 @@
 -- `pop` splits the list at its last range, and each arm puts it together again.
-use Rattle.std.proofs.Common.{◌||◌, Bool, List, [], ◌∷◌, ◌++◌, ap, refl, sym, ◌∙◌, subst}
+use Rattle.std.proofs.Common.{◌||◌, Bool, List, [], ◌∷◌, ◌++◌, ap, refl, sym, ◌∙◌}
 use Rattle.std.proofs.lemmas.List.{append_assoc, append-nil}
 use Rattle.rb_filedisk.specs.declared.unsynced.Range.{Range}
-use Rattle.rb_filedisk.specs.Unsynced.{touches, HasOne}
-use Rattle.rb_filedisk.proofs.ByteLemmas.{has_same, no_other_joined, no_other_pushed}
+use Rattle.rb_filedisk.specs.Unsynced.{touches}
 use Rattle.rb_filedisk.proofs.RangeLemmas.{with_range-joined, with_range-apart, with_range-first, with_range-same}
 use Rattle.rb_filedisk.proofs.unsynced.Unsynced.add.Goals as goal
 use Rattle.rb_filedisk.proofs.unsynced.Unsynced.add.Goals.{then-full, else-full}
 
-pub returns-in-Some-clause-with : goal.returns-in-Some-clause-with
-returns-in-Some-clause-with c =
+pub returns-in-Some : goal.returns-in-Some
+returns-in-Some c =
     let old = c.args.self.now.ranges.items in
     let front = c.pop.new.self.items in
     let last = c.in-Some.last in
@@ -27,8 +26,8 @@ returns-in-Some-clause-with c =
     ]))
     ∙ with_range-same full _ new _ _ old c.is_full-full.ensures.value c.of_write-written.ensures (sym c.in-Some.ensures.items)
 
-pub returns-in-Some-2-clause-with : goal.returns-in-Some-2-clause-with
-returns-in-Some-2-clause-with c =
+pub returns-in-Some-2 : goal.returns-in-Some-2
+returns-in-Some-2 c =
     let old = c.args.self.now.ranges.items in
     let front = c.pop.new.self.items in
     let last = c.in-Some.last in
@@ -51,8 +50,8 @@ returns-in-Some-2-clause-with c =
     ]))
     ∙ with_range-same full _ new _ _ old c.is_full-full.ensures.value c.of_write-written.ensures (sym c.in-Some.ensures.items)
 
-pub returns-in-None-clause-with : goal.returns-in-None-clause-with
-returns-in-None-clause-with c =
+pub returns-in-None : goal.returns-in-None
+returns-in-None c =
     let old = c.args.self.now.ranges.items in
     let front = c.pop.new.self.items in
     let new = c.of_write-written.result in
@@ -61,28 +60,3 @@ returns-in-None-clause-with c =
     ∙ ap (λ (items : List Range). items ++ new ∷ []) (sym (c.in-None.ensures.items ∙ append-nil front))
     ∙ with_range-first full new old c.in-None.ensures.variant.1
     ∙ with_range-same full _ new _ old old c.is_full-full.ensures.value c.of_write-written.ensures refl
-
-pub returns-in-Some-clause-exact : goal.returns-in-Some-clause-exact
-returns-in-Some-clause-exact c touched byte h =
-    let front = c.pop.new.self.items in
-    let last = c.in-Some.last in
-    let new = c.of_write-written.result in
-    let items = c.push.ensures.items ∙ ap (λ (range : Range). front ++ range ∷ []) c.span_with.ensures in
-    has_same new _ (front ++ last ∷ []) _ byte c.of_write-written.ensures (sym c.in-Some.ensures.items)
-    (no_other_joined new last front byte (sym c.touches-in-Some.ensures ∙ touched) (subst (λ (ranges : List Range). HasOne ranges byte) items h))
-
-pub returns-in-Some-2-clause-exact : goal.returns-in-Some-2-clause-exact
-returns-in-Some-2-clause-exact c done byte h =
-    let front = c.pop.new.self.items in
-    let last = c.in-Some.last in
-    let new = c.of_write-written.result in
-    let items = c.push-in-Some-2-2.ensures.items ∙ ap (λ (items : List Range). items ++ new ∷ []) c.push-in-Some-2.ensures.items in
-    has_same new _ (front ++ last ∷ []) _ byte c.of_write-written.ensures (sym c.in-Some.ensures.items)
-    (no_other_pushed new (front ++ last ∷ []) byte (subst (λ (ranges : List Range). HasOne ranges byte) items h))
-
-pub returns-in-None-clause-exact : goal.returns-in-None-clause-exact
-returns-in-None-clause-exact c done byte h =
-    let front = c.pop.new.self.items in
-    let new = c.of_write-written.result in
-    has_same new _ front _ byte c.of_write-written.ensures (sym (c.in-None.ensures.items ∙ append-nil front))
-    (no_other_pushed new front byte (subst (λ (ranges : List Range). HasOne ranges byte) c.push-in-None.ensures.items h))

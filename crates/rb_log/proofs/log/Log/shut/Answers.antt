@@ -1,4 +1,4 @@
-use Rattle.std.proofs.Common.{◌≡◌, ◌+◌, ◌<◌, ◌≤◌, ◌∙◌, inl, [], ◌∷◌, List, ℕ, length, slice_index, ap, sym, subst, arith, refl}
+use Rattle.std.proofs.Common.{◌≡◌, ◌+◌, ◌<◌, ◌≤◌, ◌∙◌, [], ◌∷◌, List, ℕ, length, slice_index, ap, sym, subst, arith, refl}
 use Rattle.std.proofs.lemmas.Result.{on_ok_weaker}
 use Rattle.rb_base.proofs.Fronts.{byte_of_part}
 use Rattle.rb_base.proofs.Overwriting.{part_written}
@@ -44,6 +44,6 @@ returns-clause-any_moment g c told groups counts log =
     let was = same_group_log now.layout now.head file from.0 groups head_slot same log in
     let torn = torn_gate now.layout now.head head_slot now.used from.0 k (omega (arith, c.requires.full)) (same.long ∙ c.requires.whole told) (subst (λ (i : ℕ). Torn i 1 from.0 k) place from.2) in record {
       outside = (from.0, from.1, torn.outside);
-      log = counted_log now.layout now.head from.0 k 0 now.used groups (omega (arith, counts)) c.requires.full (λ j lt. torn.units j (omega (arith, lt, c.requires.full)) (inl lt)) was;
+      log = counted_log now.layout now.head from.0 k 0 now.used groups (omega (arith, counts)) c.requires.full (λ j lt. torn.units j (omega (arith, lt, c.requires.full)) (λ is. omega (arith, is, lt))) was;
     } in
     weaker g.D.Disk.moment g.D.Disk.image_since disk c.write_synced.new.disk (TornFrom c.log_at.result 1 image) _ here (c.write_synced.ensures.any_moment told)
