@@ -1,6 +1,7 @@
 //! The program `rbsh`: hands the words of the command line, standard input, standard output and the file that the
 //! first word names to the shell, and ends with its status.
 #![tactic(auto)]
+
 ghost use Rattle.std.specs.Prelude.{◌≡◌, ◌⊎◌, ◌≤◌, ℕ, IfErr};
 ghost use Rattle.std.specs.Process.{exit_status};
 ghost use Rattle.rb_layout.specs.declared.layout.Layout.{Layout};

@@ -89,7 +89,11 @@ impl Display for Fault<'_> {
                 write!(f, "'{}' is no command: format, run, gen", OneLine(word))
             }
             Fault::Missing(wanted) => {
-                write!(f, "{}N is missing, N {} to {}", wanted.name, wanted.least, wanted.most)
+                write!(
+                    f,
+                    "{}N is missing, N {} to {}",
+                    wanted.name, wanted.least, wanted.most
+                )
             }
             Fault::NotANumber(word, wanted) => write!(
                 f,
