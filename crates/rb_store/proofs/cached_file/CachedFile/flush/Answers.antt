@@ -4,7 +4,7 @@ use Rattle.rb_base.specs.Moments.{weaker}
 use Rattle.rb_disk.specs.Moments.{Leaves}
 use Rattle.rb_layout.specs.Regions.{file_length}
 use Rattle.rb_layout.specs.declared.layout.Layout.{Layout}
-use Rattle.rb_log.specs.GroupSlots.{FlushedSome, GroupsAre, LogState}
+use Rattle.rb_log.specs.GroupSlots.{FlushedOrNot, GroupsAre, LogState}
 use Rattle.rb_log.specs.Slots.{SameOutside, SameSlots, gate_of}
 use Rattle.rb_twin.specs.Twins.{twin_gate}
 use Rattle.rb_cache.specs.Evictions.{Flushed}
@@ -43,9 +43,9 @@ module _ (g : Over) (c : After-flush g) where
 
   -- what the flush of the log leaves
   left : g.D.Disk.tells → (groups : List (List Patch)) → length groups ≡ log.used → GroupsAre layout log.head (g.D.Disk.content c.args.disk.now) 0 groups
-      → Leaves g.D.Disk c.args.disk.now c.flush.new.disk (FlushedSome (g.D.Disk.image c.args.disk.now) layout log.head groups log.pending)
+      → Leaves g.D.Disk c.args.disk.now c.flush.new.disk (FlushedOrNot (g.D.Disk.image c.args.disk.now) layout log.head groups log.pending)
   left told groups count has =
-      subst (λ (l : Layout). Leaves g.D.Disk c.args.disk.now c.flush.new.disk (FlushedSome (g.D.Disk.image c.args.disk.now) l log.head groups log.pending)) c.self.invariant.log_layout
+      subst (λ (l : Layout). Leaves g.D.Disk c.args.disk.now c.flush.new.disk (FlushedOrNot (g.D.Disk.image c.args.disk.now) l log.head groups log.pending)) c.self.invariant.log_layout
       (c.flush.ensures.any_moment told groups count (subst (λ (l : Layout). GroupsAre l log.head (g.D.Disk.content c.args.disk.now) 0 groups) (sym c.self.invariant.log_layout) has))
 
   leaves : g.D.Disk.tells → (groups : List (List Patch)) → length groups ≡ log.used → GroupsAre layout log.head (g.D.Disk.content c.args.disk.now) 0 groups
@@ -53,7 +53,7 @@ module _ (g : Over) (c : After-flush g) where
   leaves told groups count has =
       let image = g.D.Disk.image c.args.disk.now in
       let content = g.D.Disk.content c.args.disk.now in
-      weaker g.D.Disk.moment g.D.Disk.image_since c.args.disk.now c.flush.new.disk (FlushedSome image layout log.head groups log.pending) (OnDisk image layout log.head groups log.pending content (SeenAt held content))
+      weaker g.D.Disk.moment g.D.Disk.image_since c.args.disk.now c.flush.new.disk (FlushedOrNot image layout log.head groups log.pending) (OnDisk image layout log.head groups log.pending content (SeenAt held content))
       (λ im some. flush_on_disk image layout log.head content (calm told) groups log.pending (SeenAt held content) im some) (left told groups count has)
 
 pub returns-in_err-flush-clause-any_moment : goal.returns-in_err-flush-clause-any_moment
