@@ -1,5 +1,6 @@
 -- How a raw file's count of faults goes on, and what so many faults may leave lost. The count ends at 2^64 - 1.
-use Rattle.std.specs.Prelude.{◌≡◌, ℕ, ◌+◌, ◌-◌, ◌^◌, ◌<◌, ◌≤◌, ◌⊎◌, Bool, false, List, [], ◌∷◌, length}
+use Rattle.std.specs.Prelude.{◌≡◌, ℕ, ◌+◌, ◌-◌, ◌^◌, ◌<◌, ◌≤◌, ◌⊎◌}
+use Rattle.std.specs.Prelude.{Bool, false, List, [], ◌∷◌, length}
 use Rattle.rb_rawfile.specs.RawModel.{IsOf}
 
 -- So many faults came: the count rose by them, and hasn't reached its end.

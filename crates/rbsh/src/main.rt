@@ -40,7 +40,8 @@ fn words(rt: &HostRuntime) -> Result<Vec<String>, Status>
 // Does what the words ask for. These are the clauses of `run` that a real file and real streams leave something of.
 fn run_words<'a>(rt: &HostRuntime, words: &'a [String]) -> Ended<'a>
     ensures usage { result.status ≡ Status.Usage → IsUsage words.now }
-    ensures other_words { IsUsage words.now → (result.status ≡ Status.Usage) ⊎ (result.status ≡ Status.NoMemory) }
+    ensures other_words { IsUsage words.now
+        → (result.status ≡ Status.Usage) ⊎ (result.status ≡ Status.NoMemory) }
     ensures format_ends { (l : Layout) → AsksFormat words.now l → EndsFormat result.status }
     ensures run_ends { (n : ℕ) → AsksRun words.now n → EndsRun result.status }
     ensures gen_ends { (n : ℕ) → AsksGen words.now n → EndsGenerator result.status }

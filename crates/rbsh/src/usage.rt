@@ -1,4 +1,5 @@
-//! Which word of a command line that has none of the forms is wrong, and what is to stand in its place. `report` shows it.
+//! Which word of a command line that has none of the forms is wrong, and what is to stand in its place. `report` shows
+//! it.
 use crate::report::OneLine;
 use rb_base::parse_decimal;
 use std::fmt::{self, Display, Formatter, Write};
