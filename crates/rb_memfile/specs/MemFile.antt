@@ -1,0 +1,1 @@
+-- What a memory file is seen as.

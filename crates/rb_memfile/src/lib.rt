@@ -1,0 +1,8 @@
+//! A raw file in memory for tests: it fails where it is told to, and a sync that fails drops what was written, as
+//! systems' do.
+#![tactic(auto)]
+
+mod past;
+mod place;
+
+pub use place::Place;
