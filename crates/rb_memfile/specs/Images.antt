@@ -1,10 +1,10 @@
 -- What a crash may leave of a memory file, now and before each sync that succeeded.
-use Rattle.std.specs.Prelude.{◌≡◌, ◌⊎◌, ℕ, ◌+◌, ◌<◌, ◌≤◌, List, length, take, drop, get_or}
-use Rattle.rb_base.specs.Fields.{part}
+use Rattle.std.specs.Prelude.{◌≡◌, ◌⊎◌, ◌↔◌, ℕ, ◌+◌, ◌<◌, ◌≤◌, List, length, take, drop, get_or}
+use Rattle.rb_base.specs.Fields.{part, overwritten}
 use Rattle.rb_memfile.specs.declared.place.Place.{Place}
 use Rattle.rb_memfile.specs.declared.place.Place.TheVariants.{Settled}
 use Rattle.rb_memfile.specs.declared.past.Snapshot.{Snapshot}
-use Rattle.rb_memfile.specs.Places.{at_place}
+use Rattle.rb_memfile.specs.Places.{at_place, IsUnsettled, IsLost, IsMarked, after_sync, after_failure}
 
 -- An image of a file that reads as `bytes`: as long as some length since the last one that was settled, and with the
 -- byte that is read in each settled place.
@@ -52,3 +52,34 @@ syncs_in seen = length seen.past.snapshots
 abbrev pub LeftSince : Seen → ℕ → List ℕ → Type 0
 LeftSince seen t c = ((k : ℕ) × (t ≤ k) × (k < syncs_in seen) × LeftBefore seen.past k c)
     ⊎ ((t ≤ syncs_in seen) × Leaves seen c)
+
+-- a crash may leave any byte there
+abbrev pub MayTear : Seen → ℕ → Type 0
+MayTear seen place = IsUnsettled (at_place seen.places place)
+
+-- no sync settles it before it is written again
+abbrev pub HasLost : Seen → ℕ → Type 0
+HasLost seen place = IsLost (at_place seen.places place)
+
+-- These bytes were written at an offset, and no sync was made.
+pub record IsStored (at : ℕ) (piece : List ℕ) (old new : Seen) : Type 0 where
+  pub bytes : new.bytes ≡ overwritten old.bytes at piece
+  pub marked : IsMarked at piece old.bytes old.places new.places
+  pub shortest : new.shortest ≡ old.shortest
+  pub past : new.past ≡ old.past
+
+-- A sync succeeded: what was dirty is settled, a crash leaves so many bytes at least, and the past has what was.
+pub record IsSynced (shortest : ℕ) (old new : Seen) : Type 0 where
+  pub bytes : new.bytes ≡ old.bytes
+  pub places : (place : ℕ) → at_place new.places place ≡ after_sync (at_place old.places place)
+  pub shortest_is : new.shortest ≡ shortest
+  pub count : syncs_in new ≡ syncs_in old + 1
+  pub earlier : (k : ℕ) (c : List ℕ) → k < syncs_in old → LeftBefore new.past k c ↔ LeftBefore old.past k c
+  pub last : (c : List ℕ) → LeftBefore new.past (syncs_in old) c ↔ Leaves old c
+
+-- A sync failed: what was dirty is lost.
+pub record IsDropped (old new : Seen) : Type 0 where
+  pub bytes : new.bytes ≡ old.bytes
+  pub places : (place : ℕ) → at_place new.places place ≡ after_failure (at_place old.places place)
+  pub shortest : new.shortest ≡ old.shortest
+  pub past : new.past ≡ old.past

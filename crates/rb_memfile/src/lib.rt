@@ -2,6 +2,7 @@
 //! systems' do.
 #![tactic(auto)]
 
+mod marks;
 mod past;
 mod place;
 

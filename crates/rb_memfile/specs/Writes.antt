@@ -1,1 +1,0 @@
--- What follows from the definitions: how writes and syncs change the images of a memory file.
