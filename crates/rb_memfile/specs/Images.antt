@@ -68,6 +68,10 @@ pub record IsStored (at : ℕ) (piece : List ℕ) (old new : Seen) : Type 0 wher
   pub shortest : new.shortest ≡ old.shortest
   pub past : new.past ≡ old.past
 
+-- A first part of these bytes was, maybe none.
+abbrev pub StoresPart : (at : ℕ) (bytes : List ℕ) (old new : Seen) → Type 0
+StoresPart at bytes old new = (count : ℕ) × (count ≤ length bytes) × IsStored at (take count bytes) old new
+
 -- A sync succeeded: what was dirty is settled, a crash leaves so many bytes at least, and the past has what was.
 pub record IsSynced (shortest : ℕ) (old new : Seen) : Type 0 where
   pub bytes : new.bytes ≡ old.bytes

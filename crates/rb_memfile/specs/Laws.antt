@@ -1,6 +1,6 @@
 -- How the calls of a memory file change its images: what is read is one of them, a write tears them, and a sync leaves
 -- no more of them.
-use Rattle.std.proofs.Common.{◌≡◌, ◌⊎◌, inl, inr, ⊎_elim, ◌==◌, ℕ, ◌+◌, ◌-◌, ◌<◌, ◌≤◌, min, max, List, ◌++◌, length, take, drop, get_or, refl, sym, ap, subst, ◌∙◌, arith, rules}
+use Rattle.std.proofs.Common.{◌≡◌, ◌⊎◌, inl, inr, ⊎_elim, ◌==◌, ℕ, ◌+◌, ◌-◌, ◌^◌, ◌<◌, ◌≤◌, min, max, List, [], ◌++◌, length, take, drop, get_or, refl, sym, ap, subst, ◌∙◌, arith, rules}
 use Rattle.std.specs.Prelude.{Bool, true, false, ◌↔◌}
 use Rattle.std.proofs.lemmas.Bool.{cases_lt, eqb-true, eq-eqb}
 use Rattle.std.proofs.lemmas.List.{places, ext_get_or, get_or-take, get_or-drop, length-take, length-drop}
@@ -11,11 +11,14 @@ use Rattle.rb_rawfile.specs.RawModel.{IsOf, IsSettled, HasLength, Wrote, with_ra
 use Rattle.rb_memfile.specs.declared.place.Place.{Place}
 use Rattle.rb_memfile.specs.declared.place.Place.TheVariants.{Settled, Dirty, Lost}
 use Rattle.rb_memfile.specs.Places.{IsUnsettled, IsLost, IsMarked, IsWrittenBack, after_write, after_sync, after_failure, written_back, at_place}
-use Rattle.rb_memfile.specs.Images.{History, IsImage, Seen, Leaves, LeftBefore, LeftSince, syncs_in, MayTear, HasLost, IsStored, IsSynced, IsDropped}
+use Rattle.rb_memfile.specs.Images.{History, IsImage, Seen, Leaves, LeftBefore, LeftSince, syncs_in, MayTear, HasLost, IsStored, StoresPart, IsSynced, IsDropped}
 
 -- bytes written over others
 over_long : (old piece : List ℕ) (at : ℕ) → at ≤ length old → length (overwritten old at piece) ≡ max (length old) (at + length piece)
 over_long old piece at begins = grind (arith, places)
+
+over_none : (old : List ℕ) (at : ℕ) → overwritten old at [] ≡ old
+over_none old at = ext_get_or 0 _ _ (grind (arith, places)) (λ k lt. grind (arith, places))
 
 over_outside : (old piece : List ℕ) (at k : ℕ) → at ≤ length old → (k < at) ⊎ (at + length piece ≤ k)
     → get_or (overwritten old at piece) k 0 ≡ get_or old k 0
@@ -352,9 +355,14 @@ module _ (old new : Seen) (dropped : IsDropped old new) where
   pub dropped_time : Passes (syncs_in old) (syncs_in new) (LeftSince old) (LeftSince new) (Leaves new)
   dropped_time = stays_in_time old new dropped.past dropped_grows
 
--- What is read is an image, where the last length that was settled is no longer.
-pub reads_an_image : (seen : Seen) → seen.shortest ≤ length seen.bytes → Leaves seen seen.bytes
-reads_an_image seen fits = record { no_shorter = fits; no_longer = omega arith; settled = λ k lt is. refl }
+-- what is read is an image, where there is one
+pub reads_what_it_has : (bytes : List ℕ) (places : List Place) (shortest : ℕ) (device : List ℕ)
+    → IsImage bytes places shortest device → IsImage bytes places shortest bytes
+reads_what_it_has bytes places shortest device left = record {
+  no_shorter = omega (arith, left.no_shorter, left.no_longer);
+  no_longer = omega arith;
+  settled = λ k lt is. refl;
+}
 
 -- now is one of the moments since an earlier one
 pub now_counts : (seen : Seen) (t : ℕ) (c : List ℕ) → t ≤ syncs_in seen → Leaves seen c → LeftSince seen t c
@@ -384,3 +392,24 @@ same_places old new same k = subst (λ (seen : Seen). MayTear seen k) same
 
 pub same_losses : (old new : Seen) → new ≡ old → NoMore (HasLost old) (HasLost new)
 same_losses old new same k = subst (λ (seen : Seen). HasLost seen k) same
+
+-- the bytes of a `Vec` are few
+pub few : (len capacity count : ℕ) → (len ≡ count) × (len ≤ capacity) → capacity < 2 ^ 63 → count < 2 ^ 63
+few len capacity count ok small = omega (arith, ok.0, ok.1, small)
+
+-- no bytes are written where nothing changes
+pub stores_none : (at : ℕ) (bytes : List ℕ) (old new : Seen) → at ≤ length old.bytes → length old.places ≡ length old.bytes
+    → new ≡ old → StoresPart at bytes old new
+stores_none at bytes old new begins one same =
+    let none : IsStored at (take 0 bytes) old old = record {
+      bytes = sym (over_none old.bytes at);
+      marked = record {
+        long = omega (arith, begins, one);
+        outside = λ k out. refl;
+        over = λ k from to here. absurd (omega (arith, from, to));
+        past = λ k to far. absurd (omega (arith, to, far, begins));
+      };
+      shortest = refl;
+      past = refl;
+    } in
+    (0, omega arith, subst (λ (seen : Seen). IsStored at (take 0 bytes) old seen) (sym same) none)

@@ -3,7 +3,9 @@
 #![tactic(auto)]
 
 mod marks;
+mod memory;
 mod past;
 mod place;
 
+pub use memory::MemFile;
 pub use place::Place;
