@@ -1,6 +1,6 @@
 -- The places of a piece that goes past the end.
 use Rattle.std.proofs.Common.{◌≡◌, ◌⊎◌, inl, inr, ⊎_elim, ◌==◌, ℕ, ◌+◌, ◌-◌, ◌<◌, ◌≤◌, min, max, List, length, take, get_or, refl, sym, ap, ◌∙◌, arith}
-use Rattle.std.specs.Prelude.{Result, Ok, Err, OnOk, OnErr, IsOk, is_ok, true}
+use Rattle.std.specs.Prelude.{Result, Ok, Err, OnOk, OnErr, IsOk}
 use Rattle.std.proofs.lemmas.Bool.{cases_lt}
 use Rattle.std.proofs.lemmas.List.{get_or-take, get_or_past, length-take}
 use Rattle.rb_memfile.specs.declared.place.Place.{Place}

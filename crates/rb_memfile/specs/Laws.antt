@@ -1,7 +1,7 @@
 -- How the calls of a memory file change its images: what is read is one of them, a write tears them, and a sync leaves
 -- no more of them.
-use Rattle.std.proofs.Common.{◌≡◌, ◌⊎◌, inl, inr, ⊎_elim, ◌==◌, ℕ, ◌+◌, ◌-◌, ◌^◌, ◌<◌, ◌≤◌, min, max, List, [], ◌++◌, length, take, drop, get_or, refl, sym, ap, subst, ◌∙◌, arith, rules}
-use Rattle.std.specs.Prelude.{Bool, true, false, ◌↔◌}
+use Rattle.std.proofs.Common.{◌≡◌, ◌⊎◌, inl, inr, ⊎_elim, ◌==◌, ℕ, ◌+◌, ◌-◌, ◌^◌, ◌<◌, ◌≤◌, min, max, List, [], ◌++◌, length, take, drop, get_or, refl, sym, ap, subst, ◌∙◌, arith}
+use Rattle.std.specs.Prelude.{Bool, true, false}
 use Rattle.std.proofs.lemmas.Bool.{cases_lt, eqb-true, eq-eqb}
 use Rattle.std.proofs.lemmas.List.{places, ext_get_or, get_or-take, get_or-drop, length-take, length-drop}
 use Rattle.rb_base.specs.Fields.{part, overwritten}
@@ -10,7 +10,7 @@ use Rattle.rb_disk.specs.DiskModel.{Torn, Follows}
 use Rattle.rb_rawfile.specs.RawModel.{IsOf, IsSettled, HasLength, Wrote, with_range_of}
 use Rattle.rb_memfile.specs.declared.place.Place.{Place}
 use Rattle.rb_memfile.specs.declared.place.Place.TheVariants.{Settled, Dirty, Lost}
-use Rattle.rb_memfile.specs.Places.{IsUnsettled, IsLost, IsMarked, IsWrittenBack, after_write, after_sync, after_failure, written_back, at_place}
+use Rattle.rb_memfile.specs.Places.{IsUnsettled, IsLost, IsWrittenBack, after_write, after_sync, after_failure, written_back, at_place}
 use Rattle.rb_memfile.specs.Images.{History, IsImage, Seen, Leaves, LeftBefore, LeftSince, syncs_in, MayTear, HasLost, IsStored, StoresPart, IsSynced, IsDropped}
 
 -- bytes written over others
@@ -133,8 +133,7 @@ module _ (at : ℕ) (piece : List ℕ) (old new : Seen) (begins : at ≤ length 
       let d = untorn c old.bytes at count in
       let long = untorn_long c old.bytes at count begins few in
       let outside = untorn_outside c old.bytes at count begins few in
-      let inside = untorn_inside c old.bytes at count begins few in
-      (
+      let inside = untorn_inside c old.bytes at count begins few in (
         d,
         record {
           no_shorter = omega (arith, long, left.no_shorter, stored.shortest, fits);

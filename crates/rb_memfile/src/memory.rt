@@ -249,9 +249,7 @@ fn all_settled(alloc: Global, count: usize, room: usize) -> Result<Vec<Place>, N
     ensures room { IfOk result (λ v. room ≤ vec_capacity v) }
 {
     let mut places = Vec::with_capacity(alloc, room).map_err(|_| NoMemory)?;
-    places
-        .resize(count, Place::Settled)
-        .map_err(|_| NoMemory)?;
+    places.resize(count, Place::Settled).map_err(|_| NoMemory)?;
     Ok(places)
 }
 
@@ -264,15 +262,29 @@ impl RawFile for MemFile {
 
     ghost content = { λ file. file.bytes.items };
 
-    ghost image = { λ file c. Leaves (record { bytes = file.bytes.items; places = file.places.items;
-        shortest = file.shortest; past = record { snapshots = file.past.snapshots.items;
-        bytes = file.past.bytes.items; places = file.past.places.items } }) c };
+    ghost image = { λ file c. Leaves (record {
+      bytes = file.bytes.items;
+      places = file.places.items;
+      shortest = file.shortest;
+      past = record {
+        snapshots = file.past.snapshots.items;
+        bytes = file.past.bytes.items;
+        places = file.past.places.items;
+      };
+    }) c };
 
     ghost moment = { λ file. length file.past.snapshots.items };
 
-    ghost image_since = { λ file t c. LeftSince (record { bytes = file.bytes.items; places = file.places.items;
-        shortest = file.shortest; past = record { snapshots = file.past.snapshots.items;
-        bytes = file.past.bytes.items; places = file.past.places.items } }) t c };
+    ghost image_since = { λ file t c. LeftSince (record {
+      bytes = file.bytes.items;
+      places = file.places.items;
+      shortest = file.shortest;
+      past = record {
+        snapshots = file.past.snapshots.items;
+        bytes = file.past.bytes.items;
+        places = file.past.places.items;
+      };
+    }) t c };
 
     ghost unsettled = { λ file place. IsUnsettled (at_place file.places.items place) };
 
@@ -288,14 +300,28 @@ impl RawFile for MemFile {
     ghost reads_an_image = { λ file told. reads_what_it_has file.bytes.items file.places.items file.shortest
         file.device.items file.left };
 
-    ghost now_counts = { λ file t c told le here. now_counts (record { bytes = file.bytes.items;
-        places = file.places.items; shortest = file.shortest; past = record {
-        snapshots = file.past.snapshots.items; bytes = file.past.bytes.items; places = file.past.places.items } })
+    ghost now_counts = { λ file t c told le here. now_counts (record {
+      bytes = file.bytes.items;
+      places = file.places.items;
+      shortest = file.shortest;
+      past = record {
+        snapshots = file.past.snapshots.items;
+        bytes = file.past.bytes.items;
+        places = file.past.places.items;
+      };
+    })
         t c le here };
 
-    ghost only_now = { λ file c told since. only_now (record { bytes = file.bytes.items; places = file.places.items;
-        shortest = file.shortest; past = record { snapshots = file.past.snapshots.items;
-        bytes = file.past.bytes.items; places = file.past.places.items } }) c since };
+    ghost only_now = { λ file c told since. only_now (record {
+      bytes = file.bytes.items;
+      places = file.places.items;
+      shortest = file.shortest;
+      past = record {
+        snapshots = file.past.snapshots.items;
+        bytes = file.past.bytes.items;
+        places = file.past.places.items;
+      };
+    }) c since };
 
     fn len(&mut self) -> Result<u64, Cause>
         ensures value { IfOk result (λ n. n ≡ length (bytes_of self.old)) }

@@ -1,7 +1,6 @@
-use Rattle.std.proofs.Common.{rules, ◌≡◌, ◌<◌, ℕ, length, arith, ◌∙◌, ap, get_or}
+use Rattle.std.proofs.Common.{rules, ◌≡◌, length, arith}
 use Rattle.std.proofs.lemmas.Grind.{common_steps}
 use Rattle.rb_memfile.specs.declared.place.Place.TheVariants.{Settled}
-use Rattle.rb_memfile.specs.Places.{at_place}
 use Rattle.rb_memfile.proofs.Marking.{marked_all, on_ok}
 use Rattle.rb_memfile.proofs.marks.mark.Goals as goal
 

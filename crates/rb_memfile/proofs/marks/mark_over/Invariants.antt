@@ -1,5 +1,5 @@
 -- those before i are marked, and the others are as they were
-use Rattle.std.proofs.Common.{◌≡◌, ◌⊎◌, ◌+◌, ◌-◌, ℕ, ◌<◌, ◌≤◌, get_or, length}
+use Rattle.std.proofs.Common.{◌≡◌, ◌⊎◌, ◌+◌, ◌-◌, ℕ, ◌<◌, ◌≤◌, get_or}
 use Rattle.std.specs.Prelude.{◌==◌}
 use Rattle.rb_memfile.specs.Places.{at_place, after_write}
 use Rattle.rb_memfile.proofs.marks.mark_over.Given as goal

@@ -4,7 +4,7 @@ use Rattle.std.specs.Prelude.{Contains}
 use Rattle.std.specs.Bool.{Decides}
 use Rattle.std.proofs.lemmas.Bool.Decides.{Decides-eqb}
 use Rattle.std.proofs.lemmas.List.Elements.{contains_decides, Decides-contains}
-use Rattle.rb_memfile.specs.MemFile.{IsTold, calls_of, failing_of, one_more}
+use Rattle.rb_memfile.specs.MemFile.{IsTold, calls_of, one_more}
 use Rattle.rb_memfile.proofs.memory.MemFile.refuses.Goals as goal
 
 pub returns-clause-told : goal.returns-clause-told

@@ -1,5 +1,5 @@
 -- Time goes on by a sync, whether it succeeds or fails.
-use Rattle.std.proofs.Common.{rules, ◌≤◌, length, arith}
+use Rattle.std.proofs.Common.{rules, ◌≤◌, arith}
 use Rattle.std.specs.Prelude.{OnOk}
 use Rattle.rb_base.specs.Moments.{Passes}
 use Rattle.rb_memfile.specs.Images.{IsDropped, IsSynced}

@@ -1,5 +1,5 @@
 -- A write that was done, or a first part of it, tears each image, and adds none where the bytes are there already.
-use Rattle.std.proofs.Common.{◌≤◌, length, take, arith}
+use Rattle.std.proofs.Common.{length, take, arith}
 use Rattle.std.proofs.lemmas.List.{length-take}
 use Rattle.rb_memfile.specs.Laws.{front_is_there, stays_in_time, stored_follows, stored_grows, stored_same, stored_same_places}
 use Rattle.rb_memfile.specs.MemFile.{seen_of}
