@@ -1,6 +1,5 @@
 -- The places of a piece that goes past the end.
-use Rattle.std.proofs.Common.{◌≡◌, ◌⊎◌, inl, inr, ⊎_elim, ◌==◌, ℕ, ◌+◌, ◌-◌, ◌<◌, ◌≤◌, min, max, List, length, take, get_or, refl, sym, ap, ◌∙◌, arith}
-use Rattle.std.specs.Prelude.{Result, Ok, Err, OnOk, OnErr, IsOk}
+use Rattle.std.proofs.Common.{◌≡◌, ◌⊎◌, inl, inr, ⊎_elim, ◌==◌, ℕ, ◌+◌, ◌-◌, ◌<◌, ◌≤◌, min, max, List, length, take, get_or, sym, ap, ◌∙◌, arith}
 use Rattle.std.proofs.lemmas.Bool.{cases_lt}
 use Rattle.std.proofs.lemmas.List.{get_or-take, get_or_past, length-take}
 use Rattle.rb_memfile.specs.declared.place.Place.{Place}
@@ -34,12 +33,3 @@ module _ (at count : ℕ) (piece bytes : List ℕ) (old mid now : List Place) (b
         ∙ ap (λ (byte : ℕ). after_write (get_or bytes k 0 == byte) (at_place old k)) (get_or-take count piece (k - at) 0 few);
     past = λ k to far. dirty k far (omega (arith, long, to));
   }
-
-pub on_ok : {T E : Type 0} (r : Result T E) (P : Type 0) → (IsOk r → P) → OnOk r P
-on_ok (Ok x) P so = so refl
-on_ok (Err e) P so = tt
-
--- what holds either way
-pub either : {T E : Type 0} (r : Result T E) (P Q R : Type 0) → (P → R) → (Q → R) → OnOk r P → OnErr r Q → R
-either (Ok x) P Q R ok err fine bad = ok fine
-either (Err e) P Q R ok err fine bad = err bad

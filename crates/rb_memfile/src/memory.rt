@@ -398,6 +398,9 @@ impl RawFile for MemFile {
         ensures nothing { PassesRoom self.old at (length bytes.now) → IsUntouched self.old self.new }
         ensures called { IsCalled self.old self.new }
         ensures device { device_of self.new ≡ device_of self.old }
+
+        // No write loses a place.
+        ensures losses { NoMore (LostPlace self.old) (LostPlace self.new) }
     {
         self.write_part(at as usize, bytes)
     }

@@ -1,7 +1,8 @@
 use Rattle.std.proofs.Common.{rules, ◌≡◌, length, arith}
 use Rattle.std.proofs.lemmas.Grind.{common_steps}
 use Rattle.rb_memfile.specs.declared.place.Place.TheVariants.{Settled}
-use Rattle.rb_memfile.proofs.Marking.{marked_all, on_ok}
+use Rattle.rb_memfile.proofs.Marking.{marked_all}
+use Rattle.rb_memfile.proofs.Results.{on_ok}
 use Rattle.rb_memfile.proofs.marks.mark.Goals as goal
 
 pub returns-clause-marked : goal.returns-clause-marked

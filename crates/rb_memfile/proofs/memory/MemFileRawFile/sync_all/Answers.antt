@@ -5,7 +5,7 @@ use Rattle.rb_base.specs.Moments.{Passes}
 use Rattle.rb_memfile.specs.Images.{IsDropped, IsSynced}
 use Rattle.rb_memfile.specs.Laws.{dropped_time, synced_time}
 use Rattle.rb_memfile.specs.MemFile.{LeavesNow, LeavesSince, seen_of, syncs_of}
-use Rattle.rb_memfile.proofs.Marking.{either}
+use Rattle.rb_memfile.proofs.Results.{either}
 use Rattle.rb_memfile.proofs.memory.MemFileRawFile.sync_all.Goals as goal
 
 pub returns-clause-time : goal.returns-clause-time
