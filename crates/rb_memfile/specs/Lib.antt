@@ -1,0 +1,5 @@
+pub mod Places
+pub mod Images
+pub mod Laws
+pub mod Seen
+pub mod MemFile
