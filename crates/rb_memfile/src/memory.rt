@@ -1,7 +1,7 @@
 //! `MemFile`: a raw file in memory. Tests of the file disk stand on it.
 ghost use Rattle.std.specs.Prelude.{◌≡◌, ◌+◌, ◌-◌, ◌/◌, ◌^◌, ◌<◌, ◌≤◌, ◌⊎◌, ◌↔◌, ℕ, [], min, max, replicate};
 ghost use Rattle.std.specs.Prelude.{length, take, get_or, vec_len, vec_capacity};
-ghost use Rattle.std.specs.Prelude.{IsTrue, IsOk, IsErr, IfOk, OnOk, OnErr};
+ghost use Rattle.std.specs.Prelude.{IsTrue, false, IsOk, IsErr, IfOk, OnOk, OnErr};
 ghost use Rattle.std.proofs.Props.{props};
 ghost use Rattle.rb_base.specs.Fields.{part, overwritten};
 ghost use Rattle.rb_base.specs.Moments.{NoMore, Passes};
@@ -45,7 +45,7 @@ impl MemFile {
     ghost use Rattle.rb_memfile.specs.MemFile.{bytes_of, device_of, places_of, shortest_of, calls_of, failing_of};
     ghost use Rattle.rb_memfile.specs.MemFile.{room_of, limit_of, faults_of, seen_of, syncs_of, LeavesNow, one_more};
     ghost use Rattle.rb_memfile.specs.MemFile.{IsTold, PassesEnd, PassesRoom, IsSpent, IsSameSetup, IsCalled};
-    ghost use Rattle.rb_memfile.specs.MemFile.{IsUntouched};
+    ghost use Rattle.rb_memfile.specs.MemFile.{IsUntouched, LostPlace};
 
     /// A file that holds these bytes, all of them settled. `room` bounds their number, `syncs` how many syncs can
     /// succeed, and `failing` lists the numbers of the calls that fail. All its memory is taken here.
@@ -95,6 +95,14 @@ impl MemFile {
         ensures possible { LeavesNow self.now result.now }
     {
         &self.device
+    }
+
+    /// Whether a sync that failed has lost a place that wasn't written again since.
+    pub fn has_lost(&self) -> bool
+        ensures some { IsTrue result → (place : ℕ) × LostPlace self.now place }
+        ensures none { result ≡ false → (place : ℕ) → LostPlace self.now place → ⊥ }
+    {
+        self.places.contains(&Place::Lost)
     }
 
     /// How many calls were made, up to 2^64 - 1.

@@ -32,8 +32,8 @@ pub const SCRIPT_ROOM: u64 = 4_000_000;
 // More calls than any line of the rows makes.
 pub const CALLS: usize = 5_000;
 
-// More bytes than any script of the rows answers.
-const SINK_ROOM: usize = 20_000;
+/// More bytes than any script of the rows answers.
+pub const SINK_ROOM: usize = 20_000;
 
 /// How a line ended, and what it left.
 #[derive(Drop)]
@@ -58,7 +58,8 @@ pub const NONE: Failing<'static> = Failing {
     disk: &[],
 };
 
-fn split(alloc: Global, line: &str) -> Result<Vec<String>, AllocError> {
+/// The words of a line.
+pub fn split(alloc: Global, line: &str) -> Result<Vec<String>, AllocError> {
     let mut words = Vec::new(alloc);
     for word in line.split_whitespace() {
         words.push(String::from_str(alloc, word)?)?;

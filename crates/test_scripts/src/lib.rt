@@ -25,6 +25,8 @@ mod laps;
 #[cfg(test)]
 mod later;
 #[cfg(test)]
+mod lost;
+#[cfg(test)]
 mod mixtures;
 #[cfg(test)]
 mod queues;

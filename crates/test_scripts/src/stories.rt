@@ -54,18 +54,23 @@ pub fn owed(story: &Story, end: &Ended) -> usize {
     answered(story, end.sink.bytes())
 }
 
+/// How many of the flushes the replies to the second script tell of. None where they are those after none of them.
+pub fn told_by(story: &Story, replies: &[u8]) -> Option<usize> {
+    for (flushes, told) in story.told.iter().enumerate() {
+        if replies == told.as_bytes() {
+            return Some(flushes);
+        }
+    }
+    None
+}
+
 /// How many of the flushes a file shows to a second run. None where that answers otherwise than after one of them.
 pub fn shown(alloc: Global, story: &Story, file: &[u8]) -> Result<Option<usize>, NoMemory> {
     let end = run_over(alloc, RUN, file, story.second, NONE)?;
     if end.status != Status::Done {
         return Ok(None);
     }
-    for (flushes, told) in story.told.iter().enumerate() {
-        if end.sink.bytes() == told.as_bytes() {
-            return Ok(Some(flushes));
-        }
-    }
-    Ok(None)
+    Ok(told_by(story, end.sink.bytes()))
 }
 
 /// Whether a file shows each flush that it must have, and at most the one under way besides.
