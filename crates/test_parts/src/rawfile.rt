@@ -1,6 +1,6 @@
 //! A file disk over a file in memory whose syncs fail as systems' do: what was written isn't on its device, and the
 //! next sync answers Ok without writing it.
-ghost use Rattle.std.specs.Prelude.{◌*◌, ◌≤◌, length};
+ghost use Rattle.std.specs.Prelude.{◌*◌, ◌^◌, ◌<◌, ◌≤◌, length};
 ghost use Rattle.rb_filedisk.specs.FileDisk.{file_of};
 ghost use Rattle.rb_memfile.specs.MemFile.{bytes_of};
 
@@ -17,12 +17,7 @@ const SIZE: usize = 300;
 
 // Writes four bytes to a disk over a file that fails at these calls, and syncs until that answers Ok: so many times.
 // Then the device has them.
-fn settles_at(
-    rt: &impl Abort,
-    alloc: Global,
-    failing: &[u64],
-    syncs: u64,
-) -> Result<(), Fail> {
+fn settles_at(rt: &impl Abort, alloc: Global, failing: &[u64], syncs: u64) -> Result<(), Fail> {
     let mut disk = FileDisk::over(MemFile::new(alloc, b"", 300, 9, failing)?);
     disk.write_at(0, b"abcd")?;
     for _ in 1..syncs {
@@ -33,7 +28,7 @@ fn settles_at(
     disk.read_at(0, &mut bytes)?;
     assert!(rt; bytes == *b"abcd");
     assert!(rt; disk.len()? == 4);
-    assert!(rt; disk.into_file().device() == b"abcd");
+    assert!(rt; disk.into_file().device() == b"abcd".as_slice());
     Ok(())
 }
 
@@ -69,7 +64,7 @@ fn syncs_the_data_alone_within_the_length(rt: HostRuntime) -> Result<(), Fail> {
     disk.sync()?;
     let file = disk.into_file();
     assert!(rt; file.calls() == 9);
-    assert!(rt; file.device() == b"aXYd");
+    assert!(rt; file.device() == b"aXYd".as_slice());
     Ok(())
 }
 
@@ -77,19 +72,18 @@ fn syncs_the_data_alone_within_the_length(rt: HostRuntime) -> Result<(), Fail> {
 fn settles_what_was_written_before(rt: HostRuntime) -> Result<(), Fail> {
     // A run is killed behind its write, and the first sync of the next one fails.
     let mut file = MemFile::new(rt.alloc(), b"", 300, 9, &[3])?;
-    if file.write_at(0, b"abcd").is_err() {
-        return Err(Fail);
-    }
+    assert!(rt; file.write_at(0, b"abcd").is_ok());
     let mut disk = FileDisk::over(file);
     assert!(rt; disk.sync().is_err());
     disk.sync()?;
-    assert!(rt; disk.into_file().device() == b"abcd");
+    assert!(rt; disk.into_file().device() == b"abcd".as_slice());
     Ok(())
 }
 
 // Writes so many bytes with one between.
 fn write_with_gaps(disk: &mut FileDisk<MemFile>, count: u64) -> Result<(), Failed>
-    requires { 2 * count ≤ length (bytes_of (file_of disk.old)) }
+    requires few { count < 2 ^ 32 }
+    requires within { 2 * count ≤ length (bytes_of (file_of disk.old)) }
 {
     for i in 0..count {
         disk.write_at(2 * i, b"x")?;
