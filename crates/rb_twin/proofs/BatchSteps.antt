@@ -8,10 +8,11 @@ use Rattle.rb_disk.specs.DiskModel.{Torn}
 use Rattle.rb_disk.specs.Ranges.{SameBut, TornFrom}
 use Rattle.rb_layout.specs.Regions.{file_length, twin_offset, block_offset}
 use Rattle.rb_layout.specs.declared.layout.Layout.{Layout}
-use Rattle.rb_twin.specs.Batches.{batch_in}
+use Rattle.rb_twin.specs.Batches.{IsSpareZero, batch_in}
 use Rattle.rb_twin.specs.Twins.{twin_area, twin_gate, SameBehindGate, StagedFrom, GateFrom}
 use Rattle.rb_twin.specs.TwinLaws.{torn_behind_gate, torn_gate, batch_same}
 use Rattle.rb_twin.proofs.Images.{counted}
+use Rattle.rb_twin.proofs.Spares.{spare_same}
 use Rattle.rb_twin.specs.declared.batch.TheConstants.{AREA}
 
 -- a part of a part
@@ -49,16 +50,22 @@ module _ (l : Layout) (area : List ℕ) (whole_area : length area ≡ AREA) (few
   staged_from image at here sized c from =
       let both = staged_torn from.0 c at here (sized from.0 from.1) from.2 in (from.0, from.1, both.0, both.1)
 
-  pub staged_batch : (f g : List ℕ) (at : ℕ) → at ≡ twin_offset l 0 → length f ≡ file_length l → g ≡ overwritten f (at + 1) bytes
-      → batch_in (twin_area l g) ≡ batch_in area
-  staged_batch f g at here whole wrote =
+  staged_same : (f g : List ℕ) (at : ℕ) → at ≡ twin_offset l 0 → length f ≡ file_length l → g ≡ overwritten f (at + 1) bytes
+      → part area 1 count ≡ part (twin_area l g) 1 count
+  staged_same f g at here whole wrote =
       let there : part g (twin_offset l 0 + 1) count ≡ bytes =
       ap (λ (i : ℕ). part g (i + 1) count) (sym here)
       ∙ ap (λ (h : List ℕ). part h (at + 1) count) wrote
       ∙ part_written f (at + 1) bytes count (omega (arith, long, small, whole, here)) long in
-      let same : part area 1 count ≡ part (twin_area l g) 1 count =
-      sym is ∙ sym there ∙ sym (part_inside g (twin_offset l 0) AREA 1 count (omega (arith, small))) in
-      batch_same area (twin_area l g) count same few (omega (arith, counted area))
+      sym is ∙ sym there ∙ sym (part_inside g (twin_offset l 0) AREA 1 count (omega (arith, small)))
+
+  pub staged_batch : (f g : List ℕ) (at : ℕ) → at ≡ twin_offset l 0 → length f ≡ file_length l → g ≡ overwritten f (at + 1) bytes
+      → batch_in (twin_area l g) ≡ batch_in area
+  staged_batch f g at here whole wrote = batch_same area (twin_area l g) count (staged_same f g at here whole wrote) few (omega (arith, counted area))
+
+  pub staged_spare : (f g : List ℕ) (at : ℕ) → at ≡ twin_offset l 0 → length f ≡ file_length l → g ≡ overwritten f (at + 1) bytes
+      → IsSpareZero area → IsSpareZero (twin_area l g)
+  staged_spare f g at here whole wrote spare = spare_same area (twin_area l g) count (staged_same f g at here whole wrote) few (omega (arith, counted area)) spare
 
 -- The gate is one byte.
 pub gate_torn : (l : Layout) (f g : List ℕ) (at : ℕ) → at ≡ twin_offset l 0 → length f ≡ file_length l → Torn at 1 f g → SameBehindGate l f g

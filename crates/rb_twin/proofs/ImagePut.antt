@@ -9,8 +9,9 @@ use Rattle.byteorder.specs.Numbers.{length-bytes_high_first, big_number-reads_ba
 use Rattle.rb_base.specs.Fields.{part, number_at, overwritten, with_number, AreApart}
 use Rattle.rb_base.proofs.Fronts.{number_of_part, byte_of_part}
 use Rattle.rb_base.proofs.Overwriting.{length-overwritten, part_written, part_apart}
-use Rattle.rb_twin.specs.Batches.{Image, images_in, batch_in}
+use Rattle.rb_twin.specs.Batches.{Image, IsSpareZero, images_in, batch_in}
 use Rattle.rb_twin.proofs.Images.{image_of, counted, images_kept, front_more}
+use Rattle.rb_twin.proofs.Spares.{byte_same}
 
 number_written : (old : List ℕ) (at value : ℕ) → with_number old at 4 value ≡ overwritten old at (big_bytes 4 value)
 number_written old at value = ap (λ (n : ℕ). take at old ++ big_bytes 4 value ++ drop (at + n) old) (sym (length-bytes_high_first 4 value))
@@ -72,3 +73,14 @@ module _ (area : List ℕ) (n block : ℕ) (unit : List ℕ) (whole : length are
   image_put =
       let old : images_in new 0 n ≡ batch_in area = images_kept area new 0 n (λ k lt. ap (image_of new) (omega arith) ∙ image_kept k lt ∙ ap (image_of area) (omega arith)) ∙ ap (images_in area 0) is in
       ap (images_in new 0) count_now ∙ front_more new n ∙ ap (λ (xs : List Image). xs ++ image_of new n ∷ []) old ∙ ap (λ (x : Image). batch_in area ++ x ∷ []) image_new
+
+  -- the other bytes of the header stay
+  byte_kept : (k : ℕ) → 2 ≤ k → k < UNIT → AreApart k 1 (8 + 4 * n) 4 → slice_index new k ≡ slice_index area k
+  byte_kept k low lt apart = byte_same area new k (by_put k 1 (inl (omega (arith, lt))) ∙ by_name k 1 apart ∙ by_count k 1 low)
+
+  pub spare_put : IsSpareZero area → IsSpareZero new
+  spare_put spare = record {
+    front = λ k low lt. byte_kept k low (omega (arith, lt)) (inl (omega (arith, lt))) ∙ spare.front k low lt;
+    behind = λ k low lt. byte_kept k (omega (arith, low)) lt (inr (omega (arith, low, counted new, count_now)))
+        ∙ spare.behind k (omega (arith, low, counted new, count_now, counted area, is)) lt;
+  }

@@ -8,10 +8,11 @@ use Rattle.rb_disk.specs.DiskModel.{Only}
 use Rattle.rb_disk.specs.Ranges.{SameBut, SamePart}
 use Rattle.rb_layout.specs.Regions.{file_length, twin_offset, block_offset, block_count}
 use Rattle.rb_layout.specs.declared.layout.Layout.{Layout}
-use Rattle.rb_twin.specs.Batches.{Image, IsBatch, with_batch, batch_in}
+use Rattle.rb_twin.specs.Batches.{Image, IsBatch, IsSpareZero, with_batch, batch_in}
 use Rattle.rb_twin.specs.Twins.{home, twin_area, twin_gate, kept, IsTwin, TwinSome, Repaired, SameBehindGate, SameButHomes, StagedFrom, GateFrom, HomesFrom}
 use Rattle.rb_twin.specs.TwinLaws.{area_stays, batch_same, behind_same, front_stays, homes_stay, kept_one, kept_two, kept_three, kept_four, kept_open, take_earlier}
 use Rattle.rb_twin.proofs.HomeSteps.{but_both, but_none}
+use Rattle.rb_twin.proofs.Spares.{spare_same}
 use Rattle.rb_twin.specs.declared.batch.TheConstants.{AREA}
 
 -- Files that are the same from a place to the end
@@ -48,11 +49,19 @@ home_front l f g same = record {
   behind = same.behind;
 }
 
--- The batch stands behind the gate.
+-- The batch stands behind the gate, and so do the spare bytes of the header.
+module _ (l : Layout) (f g : List ℕ) (batch : List Image) (few : length batch ≤ 8) (same : part (twin_area l g) 1 (AREA - 1) ≡ part (twin_area l f) 1 (AREA - 1)) (is : batch_in (twin_area l f) ≡ batch) where
+  short : length (batch_in (twin_area l f)) ≤ 8
+  short = omega (arith, few, ap length is)
+
+  pub area_batch : batch_in (twin_area l g) ≡ batch
+  area_batch = batch_same (twin_area l f) (twin_area l g) (AREA - 1) (sym same) short (omega (arith, short)) ∙ is
+
+  pub area_spare : IsSpareZero (twin_area l f) → IsSpareZero (twin_area l g)
+  area_spare spare = spare_same (twin_area l f) (twin_area l g) (AREA - 1) (sym same) short (omega (arith, short)) spare
+
 pub gate_batch : (l : Layout) (f g : List ℕ) (batch : List Image) → length batch ≤ 8 → SameBehindGate l f g → batch_in (twin_area l f) ≡ batch → batch_in (twin_area l g) ≡ batch
-gate_batch l f g batch few same is =
-    let short : length (batch_in (twin_area l f)) ≤ 8 = omega (arith, few, ap length is) in
-    batch_same (twin_area l f) (twin_area l g) (AREA - 1) (sym same.area) short (omega (arith, short)) ∙ is
+gate_batch l f g batch few same is = area_batch l f g batch few same.area is
 
 -- A repair that hasn't begun
 pub repair_still : (l : Layout) (image : List ℕ → Type 0) (f : List ℕ) → length f ≡ file_length l → ((c : List ℕ) → image c → SamePart (twin_offset l 0) (file_length l) f c) → IsTwin l f → (c : List ℕ) → image c → Repaired image l f c

@@ -3,3 +3,4 @@ pub mod HomeSteps
 pub mod ImagePut
 pub mod Images
 pub mod KeptBlocks
+pub mod Spares

@@ -1,5 +1,5 @@
 -- Batches of blocks, and the bytes that name and hold them: a header of a unit, and up to eight images behind it.
-use Rattle.std.specs.Prelude.{◌≢◌, ℕ, zero, suc, ◌+◌, ◌*◌, ◌<◌, ◌≤◌, ◌==◌}
+use Rattle.std.specs.Prelude.{◌≡◌, ◌≢◌, ℕ, zero, suc, ◌+◌, ◌*◌, ◌<◌, ◌≤◌, ◌==◌}
 use Rattle.std.specs.Prelude.{if◌then◌else◌, List, [], ◌∷◌, length, slice_index}
 use Rattle.std.specs.List.{AllByRecursion}
 use Rattle.rb_base.specs.Fields.{part, number_at}
@@ -41,3 +41,8 @@ images_in area place (suc count) =
 
 abbrev pub batch_in : List ℕ → List Image
 batch_in area = images_in area 0 (slice_index area 1)
+
+-- The spare bytes of a header are 0: those between the count and the numbers, and those behind the last number.
+pub record IsSpareZero (area : List ℕ) : Type 0 where
+  pub front : (k : ℕ) → 2 ≤ k → k < 8 → slice_index area k ≡ 0
+  pub behind : (k : ℕ) → 8 + 4 * length (batch_in area) ≤ k → k < UNIT → slice_index area k ≡ 0

@@ -7,7 +7,7 @@ use Rattle.rb_base.specs.declared.sizes.TheConstants.{UNIT}
 use Rattle.rb_disk.specs.Ranges.{SameBut}
 use Rattle.rb_layout.specs.Regions.{twin_offset, block_offset, block_count, file_length}
 use Rattle.rb_layout.specs.declared.layout.Layout.{Layout}
-use Rattle.rb_twin.specs.Batches.{Image, IsBatch, IsNoneOf, Differ, with_batch, batch_in}
+use Rattle.rb_twin.specs.Batches.{Image, IsBatch, IsNoneOf, IsSpareZero, Differ, with_batch, batch_in}
 
 -- a block as it stands at home
 abbrev pub home : Layout → List ℕ → ℕ → List ℕ
@@ -79,3 +79,4 @@ pub record IsTwinMemory (l : Layout) (area : List ℕ) : Type 0 where
   pub few : length (batch_in area) ≤ 8
   pub differ : Differ (batch_in area)
   pub within : AllByRecursion (λ image. image.no < block_count l) (batch_in area)
+  pub spare : IsSpareZero area

@@ -4,7 +4,7 @@ ghost use Rattle.std.specs.Prelude.{◌≡◌, ◌≢◌, ◌+◌, ◌*◌, ◌+
 ghost use Rattle.std.specs.Prelude.{[], ◌∷◌, ℕ, length, slice_index, IsTrue};
 ghost use Rattle.rb_base.specs.Fields.{number_at, part};
 ghost use Rattle.rb_layout.specs.Regions.{block_count};
-ghost use Rattle.rb_twin.specs.Batches.{Image, IsBatch, batch_in};
+ghost use Rattle.rb_twin.specs.Batches.{Image, IsBatch, IsSpareZero, batch_in};
 
 use rb_base::{BlockNo, UNIT, put_u32, u32_at};
 use rb_layout::Layout;
@@ -82,12 +82,14 @@ pub fn is_batch(layout: &Layout, area: &[u8]) -> bool
     true
 }
 
-/// Puts one image more behind those of a batch.
+/// Puts one image more behind those of a batch. The spare bytes of the header stay 0.
 pub fn put_image(area: &mut [u8], block: BlockNo, unit: &[u8])
     requires whole { length area.old ≡ AREA }
     requires room { length (batch_in area.old) < TWIN_IMAGES }
     requires unit { length unit.now ≡ UNIT }
+    requires spare { IsSpareZero area.old }
     ensures batch { batch_in area.new ≡ batch_in area.old ++ record { no = block; unit = unit.now } ∷ [] }
+    ensures spare { IsSpareZero area.new }
     ensures whole { length area.new ≡ AREA }
 {
     let place = image_count(area);
@@ -101,6 +103,7 @@ pub fn put_image(area: &mut [u8], block: BlockNo, unit: &[u8])
 pub fn clear_batch(area: &mut [u8])
     requires whole { length area.old ≡ AREA }
     ensures batch { batch_in area.new ≡ [] }
+    ensures spare { IsSpareZero area.new }
     ensures whole { length area.new ≡ AREA }
 {
     area[..UNIT].fill(0);

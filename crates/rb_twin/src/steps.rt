@@ -1,12 +1,13 @@
 //! The steps of a batch on its way home, each synced before the next one begins. `Twin` calls them for a write, and the
 //! last two for a repair.
-ghost use Rattle.std.specs.Prelude.{◌≡◌, ◌≢◌, ◌≤◌, ℕ, List, length, OnOk, IsErrOf};
+ghost use Rattle.std.specs.Prelude.{◌≡◌, ◌≢◌, ◌-◌, ◌≤◌, ℕ, List, length, OnOk, IsErrOf};
 ghost use Rattle.rb_base.specs.Counts.{IsCounted, IsCountedAs, err_is, is_failed};
+ghost use Rattle.rb_base.specs.Fields.{part};
 ghost use Rattle.rb_disk.specs.DiskModel.{Only};
 ghost use Rattle.rb_disk.specs.Moments.{Leaves, Rests};
 ghost use Rattle.rb_disk.specs.Ranges.{SameBut, SamePart};
 ghost use Rattle.rb_layout.specs.Regions.{file_length, twin_offset, block_offset, block_count};
-ghost use Rattle.rb_twin.specs.Batches.{IsBatch, batch_in, with_batch};
+ghost use Rattle.rb_twin.specs.Batches.{IsBatch, IsSpareZero, batch_in, with_batch};
 ghost use Rattle.rb_twin.specs.Twins.{home, kept, twin_area, twin_gate, IsTwin, TwinSome, Repaired};
 ghost use Rattle.rb_twin.specs.Twins.{SameBehindGate, SameButHomes, StagedFrom, GateFrom, HomesFrom};
 
@@ -27,8 +28,10 @@ fn stage<D: Disk>(disk: &mut D, layout: &Layout, area: &[u8]) -> Result<(), Fail
     requires sized { D.tells → (c : List ℕ) → D.image disk.old c → length c ≡ file_length layout.now }
     requires area { length area.now ≡ AREA }
     requires few { length (batch_in area.now) ≤ 8 }
+    requires spare { IsSpareZero area.now }
     ensures staged { D.tells → OnOk result
         (batch_in (twin_area layout.now (D.content disk.new)) ≡ batch_in area.now) }
+    ensures spare { D.tells → OnOk result (IsSpareZero (twin_area layout.now (D.content disk.new))) }
     ensures others { D.tells → SameBut (twin_offset layout.now 0) (block_offset layout.now 0)
         (D.content disk.old) (D.content disk.new) }
     ensures durable { D.tells → OnOk result (Only (D.content disk.new) (D.image disk.new)) }
@@ -85,6 +88,8 @@ fn finish<D: Disk>(disk: &mut D, layout: &Layout, area: &[u8]) -> Result<(), Fai
     ensures homes { D.tells → OnOk result ((which : ℕ) → home layout.now (D.content disk.new) which
         ≡ with_batch (batch_in area.now) which (home layout.now (D.content disk.old) which)) }
     ensures shut { D.tells → OnOk result (twin_gate layout.now (D.content disk.new) ≡ 0) }
+    ensures area { D.tells → part (twin_area layout.now (D.content disk.new)) 1 (AREA - 1)
+        ≡ part (twin_area layout.now (D.content disk.old)) 1 (AREA - 1) }
     ensures outside { D.tells → SameBut (twin_offset layout.now 0) (file_length layout.now)
         (D.content disk.old) (D.content disk.new) }
     ensures durable { D.tells → OnOk result (Only (D.content disk.new) (D.image disk.new)) }
@@ -101,12 +106,16 @@ pub fn write_batch<D: Disk>(disk: &mut D, layout: &Layout, area: &[u8]) -> Resul
     requires whole { D.tells → length (D.content disk.old) ≡ file_length layout.now }
     requires area { length area.now ≡ AREA }
     requires valid { IsBatch (block_count layout.now) (batch_in area.now) }
+    requires spare { IsSpareZero area.now }
     requires shut { D.tells → (c : List ℕ) → D.image disk.old c → twin_gate layout.now c ≢ 1 }
     requires synced { D.tells → (c : List ℕ) → D.image disk.old c
         → SamePart (block_offset layout.now 0) (file_length layout.now) (D.content disk.old) c }
     ensures written { D.tells → OnOk result ((which : ℕ) → home layout.now (D.content disk.new) which
         ≡ with_batch (batch_in area.now) which (home layout.now (D.content disk.old) which)) }
     ensures shut { D.tells → OnOk result (twin_gate layout.now (D.content disk.new) ≡ 0) }
+    ensures left { D.tells → OnOk result
+        (batch_in (twin_area layout.now (D.content disk.new)) ≡ batch_in area.now) }
+    ensures spare { D.tells → OnOk result (IsSpareZero (twin_area layout.now (D.content disk.new))) }
     ensures outside { D.tells → SameBut (twin_offset layout.now 0) (file_length layout.now)
         (D.content disk.old) (D.content disk.new) }
     ensures durable { D.tells → OnOk result (Only (D.content disk.new) (D.image disk.new)) }

@@ -7,8 +7,8 @@ ghost use Rattle.rb_disk.specs.DiskModel.{Only};
 ghost use Rattle.rb_disk.specs.Moments.{Leaves, Rests};
 ghost use Rattle.rb_disk.specs.Ranges.{SameBut, SamePart};
 ghost use Rattle.rb_layout.specs.Regions.{file_length, twin_offset, block_offset, block_count};
-ghost use Rattle.rb_twin.specs.Batches.{Image, IsNoneOf, with_batch};
-ghost use Rattle.rb_twin.specs.Twins.{home, kept, twin_gate, IsTwin, TwinSome, Repaired};
+ghost use Rattle.rb_twin.specs.Batches.{Image, IsNoneOf, IsSpareZero, with_batch, batch_in};
+ghost use Rattle.rb_twin.specs.Twins.{home, kept, twin_area, twin_gate, IsTwin, TwinSome, Repaired};
 
 use crate::batch::{AREA, TWIN_IMAGES, clear_batch, image_count, put_image};
 use crate::steps::{repair_file, write_batch};
@@ -71,8 +71,9 @@ impl Twin {
 
     /// Writes the batch, which isn't empty, to the twin area and then each of its blocks home, with four syncs. After
     /// an Ok every image has all of them at home, and the batch is empty; a crash before leaves a file that keeps all
-    /// of these blocks as they were, or all as the batch has them. It is called where no image has an open gate, and
-    /// each has the blocks that are read.
+    /// of these blocks as they were, or all as the batch has them. Behind the shut gate the twin area still has the
+    /// batch, and the spare bytes of its header are 0. It is called where no image has an open gate, and each has the
+    /// blocks that are read.
     pub fn write<D: Disk>(&mut self, disk: &mut D) -> Result<(), Failed>
         requires some { 0 < length self.old.batch }
         requires whole { D.tells → length (D.content disk.old) ≡ file_length self.old.layout }
@@ -82,6 +83,9 @@ impl Twin {
         ensures written { D.tells → OnOk result ((which : ℕ) → home self.old.layout (D.content disk.new) which
             ≡ with_batch self.old.batch which (home self.old.layout (D.content disk.old) which)) }
         ensures shut { D.tells → OnOk result (twin_gate self.old.layout (D.content disk.new) ≡ 0) }
+        ensures left { D.tells → OnOk result
+            (batch_in (twin_area self.old.layout (D.content disk.new)) ≡ self.old.batch) }
+        ensures spare { D.tells → OnOk result (IsSpareZero (twin_area self.old.layout (D.content disk.new))) }
         ensures outside { D.tells → SameBut (twin_offset self.old.layout 0) (file_length self.old.layout)
             (D.content disk.old) (D.content disk.new) }
         ensures durable { D.tells → OnOk result (Only (D.content disk.new) (D.image disk.new)) }

@@ -1,9 +1,11 @@
-use Rattle.std.proofs.Common.{◌∙◌, Result, Ok, Err, OnOk}
+use Rattle.std.proofs.Common.{◌≡◌, ◌-◌, ◌∙◌, List, ℕ, Result, Ok, Err, OnOk, ap}
+use Rattle.rb_base.specs.Fields.{part}
 use Rattle.rb_base.specs.Moments.{LeavesOnly, weaker, joined}
 use Rattle.rb_layout.specs.Regions.{file_length, twin_offset}
 use Rattle.rb_twin.specs.Batches.{batch_in}
-use Rattle.rb_twin.specs.Twins.{Repaired}
-use Rattle.rb_twin.specs.TwinLaws.{front_stays, homes_stay}
+use Rattle.rb_twin.specs.Twins.{Repaired, twin_area}
+use Rattle.rb_twin.specs.TwinLaws.{area_stays, front_stays, homes_stay}
+use Rattle.rb_twin.specs.declared.batch.TheConstants.{AREA}
 use Rattle.rb_twin.proofs.HomeSteps.{but_both}
 use Rattle.rb_twin.proofs.KeptBlocks.{home_front, repair_homes, repair_gate}
 use Rattle.rb_twin.proofs.steps.finish.Given.{Over}
@@ -28,7 +30,19 @@ returns-in_err-bring_home-clause-outside g c told = home_front c.args.layout.now
 pub returns-in_err-bring_home-clause-any_moment : goal.returns-in_err-bring_home-clause-any_moment
 returns-in_err-bring_home-clause-any_moment g c told = brought g (goal.at.returns-in_err-bring_home-clause-any_moment g c).After-bring_home told
 
+-- which leaves the twin area
+area : (g : Over) (c : After-bring_home g) → g.D.Disk.tells
+    → part (twin_area c.args.layout.now (g.D.Disk.content c.bring_home.new.disk)) 1 (AREA - 1) ≡ part (twin_area c.args.layout.now (g.D.Disk.content c.args.disk.now)) 1 (AREA - 1)
+area g c told =
+    ap (λ (bytes : List ℕ). part bytes 1 (AREA - 1)) (area_stays c.args.layout.now (g.D.Disk.content c.args.disk.now) (g.D.Disk.content c.bring_home.new.disk) ((c.bring_home.ensures.others told).front)).0
+
+pub returns-in_err-bring_home-clause-area : goal.returns-in_err-bring_home-clause-area
+returns-in_err-bring_home-clause-area g c told = area g (goal.at.returns-in_err-bring_home-clause-area g c).After-bring_home told
+
 -- step four
+pub returns-clause-area : goal.returns-clause-area
+returns-clause-area g c told = (c.write_gate.ensures.others told).area ∙ area g (goal.at.returns-clause-area g c).After-bring_home told
+
 pub returns-clause-homes : goal.returns-clause-homes
 returns-clause-homes g c told =
     let mid = g.D.Disk.content c.bring_home.new.disk in

@@ -24,5 +24,6 @@ invariant_of-self c =
       few = omega (arith, ap length made, length-push (batch_in a.area.items) image, room);
       differ = subst Differ (sym made) (differ_push (batch_in a.area.items) image i.differ none);
       within = subst (λ (images : List Image). AllByRecursion (λ x. x.no < block_count a.layout) images) (sym made) (all_push (λ x. x.no < block_count a.layout) (batch_in a.area.items) image i.within within);
+      spare = c.put_image.ensures.spare;
     } in
     subst (IsTwinMemory a.layout) (sym (take_at new (drop (length new) a.area.items) a.area.len (omega (arith, c.put_image.ensures.whole, i.whole, c.deref_mut.ensures.len)))) valid
