@@ -50,18 +50,15 @@ home_front l f g same = record {
 }
 
 -- The batch stands behind the gate, and so do the spare bytes of the header.
-module _ (l : Layout) (f g : List ℕ) (batch : List Image) (few : length batch ≤ 8) (same : part (twin_area l g) 1 (AREA - 1) ≡ part (twin_area l f) 1 (AREA - 1)) (is : batch_in (twin_area l f) ≡ batch) where
+module _ (l : Layout) (f g : List ℕ) (batch : List Image) (few : length batch ≤ 8) (same : SameBehindGate l f g) (is : batch_in (twin_area l f) ≡ batch) where
   short : length (batch_in (twin_area l f)) ≤ 8
   short = omega (arith, few, ap length is)
 
-  pub area_batch : batch_in (twin_area l g) ≡ batch
-  area_batch = batch_same (twin_area l f) (twin_area l g) (AREA - 1) (sym same) short (omega (arith, short)) ∙ is
+  pub gate_batch : batch_in (twin_area l g) ≡ batch
+  gate_batch = batch_same (twin_area l f) (twin_area l g) (AREA - 1) (sym same.area) short (omega (arith, short)) ∙ is
 
-  pub area_spare : IsSpareZero (twin_area l f) → IsSpareZero (twin_area l g)
-  area_spare spare = spare_same (twin_area l f) (twin_area l g) (AREA - 1) (sym same) short (omega (arith, short)) spare
-
-pub gate_batch : (l : Layout) (f g : List ℕ) (batch : List Image) → length batch ≤ 8 → SameBehindGate l f g → batch_in (twin_area l f) ≡ batch → batch_in (twin_area l g) ≡ batch
-gate_batch l f g batch few same is = area_batch l f g batch few same.area is
+  pub gate_spare : IsSpareZero (twin_area l f) → IsSpareZero (twin_area l g)
+  gate_spare spare = spare_same (twin_area l f) (twin_area l g) (AREA - 1) (sym same.area) short (omega (arith, short)) spare
 
 -- A repair that hasn't begun
 pub repair_still : (l : Layout) (image : List ℕ → Type 0) (f : List ℕ) → length f ≡ file_length l → ((c : List ℕ) → image c → SamePart (twin_offset l 0) (file_length l) f c) → IsTwin l f → (c : List ℕ) → image c → Repaired image l f c

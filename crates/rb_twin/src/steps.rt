@@ -1,8 +1,7 @@
 //! The steps of a batch on its way home, each synced before the next one begins. `Twin` calls them for a write, and the
 //! last two for a repair.
-ghost use Rattle.std.specs.Prelude.{◌≡◌, ◌≢◌, ◌-◌, ◌≤◌, ℕ, List, length, OnOk, IsErrOf};
+ghost use Rattle.std.specs.Prelude.{◌≡◌, ◌≢◌, ◌≤◌, ℕ, List, length, OnOk, IsErrOf};
 ghost use Rattle.rb_base.specs.Counts.{IsCounted, IsCountedAs, err_is, is_failed};
-ghost use Rattle.rb_base.specs.Fields.{part};
 ghost use Rattle.rb_disk.specs.DiskModel.{Only};
 ghost use Rattle.rb_disk.specs.Moments.{Leaves, Rests};
 ghost use Rattle.rb_disk.specs.Ranges.{SameBut, SamePart};
@@ -88,8 +87,9 @@ fn finish<D: Disk>(disk: &mut D, layout: &Layout, area: &[u8]) -> Result<(), Fai
     ensures homes { D.tells → OnOk result ((which : ℕ) → home layout.now (D.content disk.new) which
         ≡ with_batch (batch_in area.now) which (home layout.now (D.content disk.old) which)) }
     ensures shut { D.tells → OnOk result (twin_gate layout.now (D.content disk.new) ≡ 0) }
-    ensures area { D.tells → part (twin_area layout.now (D.content disk.new)) 1 (AREA - 1)
-        ≡ part (twin_area layout.now (D.content disk.old)) 1 (AREA - 1) }
+    ensures left { D.tells → batch_in (twin_area layout.now (D.content disk.new)) ≡ batch_in area.now }
+    ensures spare { D.tells → IsSpareZero (twin_area layout.now (D.content disk.old))
+        → IsSpareZero (twin_area layout.now (D.content disk.new)) }
     ensures outside { D.tells → SameBut (twin_offset layout.now 0) (file_length layout.now)
         (D.content disk.old) (D.content disk.new) }
     ensures durable { D.tells → OnOk result (Only (D.content disk.new) (D.image disk.new)) }

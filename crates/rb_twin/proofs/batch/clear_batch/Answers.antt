@@ -5,7 +5,7 @@ use Rattle.rb_twin.proofs.Spares.{all_zero}
 use Rattle.rb_twin.proofs.batch.clear_batch.Goals as goal
 
 pub slice_bounds-fill-end-2 : goal.slice_bounds-fill-end-2
-slice_bounds-fill-end-2 c = sym (length-take-le UNIT c.args.area.now (omega (arith, c.requires.whole)))
+slice_bounds-fill-end-2 c = sym (length-take-le _ c.args.area.now (omega (arith, c.requires.whole)))
 
 pub returns-clause-spare : goal.returns-clause-spare
 returns-clause-spare c = all_zero _ (λ k lt.

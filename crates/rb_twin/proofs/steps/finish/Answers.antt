@@ -1,13 +1,11 @@
-use Rattle.std.proofs.Common.{◌≡◌, ◌-◌, ◌∙◌, List, ℕ, Result, Ok, Err, OnOk, ap}
-use Rattle.rb_base.specs.Fields.{part}
+use Rattle.std.proofs.Common.{◌≡◌, ◌∙◌, Result, Ok, Err, OnOk, ap, subst, sym}
 use Rattle.rb_base.specs.Moments.{LeavesOnly, weaker, joined}
 use Rattle.rb_layout.specs.Regions.{file_length, twin_offset}
-use Rattle.rb_twin.specs.Batches.{batch_in}
+use Rattle.rb_twin.specs.Batches.{IsSpareZero, batch_in}
 use Rattle.rb_twin.specs.Twins.{Repaired, twin_area}
 use Rattle.rb_twin.specs.TwinLaws.{area_stays, front_stays, homes_stay}
-use Rattle.rb_twin.specs.declared.batch.TheConstants.{AREA}
 use Rattle.rb_twin.proofs.HomeSteps.{but_both}
-use Rattle.rb_twin.proofs.KeptBlocks.{home_front, repair_homes, repair_gate}
+use Rattle.rb_twin.proofs.KeptBlocks.{gate_batch, gate_spare, home_front, repair_homes, repair_gate}
 use Rattle.rb_twin.proofs.steps.finish.Given.{Over}
 use Rattle.rb_twin.proofs.steps.finish.Goals.{After-bring_home}
 use Rattle.rb_twin.proofs.steps.finish.Goals as goal
@@ -31,17 +29,27 @@ pub returns-in_err-bring_home-clause-any_moment : goal.returns-in_err-bring_home
 returns-in_err-bring_home-clause-any_moment g c told = brought g (goal.at.returns-in_err-bring_home-clause-any_moment g c).After-bring_home told
 
 -- which leaves the twin area
-area : (g : Over) (c : After-bring_home g) → g.D.Disk.tells
-    → part (twin_area c.args.layout.now (g.D.Disk.content c.bring_home.new.disk)) 1 (AREA - 1) ≡ part (twin_area c.args.layout.now (g.D.Disk.content c.args.disk.now)) 1 (AREA - 1)
-area g c told =
-    ap (λ (bytes : List ℕ). part bytes 1 (AREA - 1)) (area_stays c.args.layout.now (g.D.Disk.content c.args.disk.now) (g.D.Disk.content c.bring_home.new.disk) ((c.bring_home.ensures.others told).front)).0
+area : (g : Over) (c : After-bring_home g) → g.D.Disk.tells → twin_area c.args.layout.now (g.D.Disk.content c.bring_home.new.disk) ≡ twin_area c.args.layout.now (g.D.Disk.content c.args.disk.now)
+area g c told = (area_stays c.args.layout.now (g.D.Disk.content c.args.disk.now) (g.D.Disk.content c.bring_home.new.disk) ((c.bring_home.ensures.others told).front)).0
 
-pub returns-in_err-bring_home-clause-area : goal.returns-in_err-bring_home-clause-area
-returns-in_err-bring_home-clause-area g c told = area g (goal.at.returns-in_err-bring_home-clause-area g c).After-bring_home told
+pub returns-in_err-bring_home-clause-left : goal.returns-in_err-bring_home-clause-left
+returns-in_err-bring_home-clause-left g c told = ap batch_in (area g (goal.at.returns-in_err-bring_home-clause-left g c).After-bring_home told) ∙ c.requires.staged told
+
+pub returns-in_err-bring_home-clause-spare : goal.returns-in_err-bring_home-clause-spare
+returns-in_err-bring_home-clause-spare g c told spare = subst IsSpareZero (sym (area g (goal.at.returns-in_err-bring_home-clause-spare g c).After-bring_home told)) spare
 
 -- step four
-pub returns-clause-area : goal.returns-clause-area
-returns-clause-area g c told = (c.write_gate.ensures.others told).area ∙ area g (goal.at.returns-clause-area g c).After-bring_home told
+pub returns-clause-left : goal.returns-clause-left
+returns-clause-left g c told =
+    let l = c.args.layout.now in
+    let is = ap batch_in (area g (goal.at.returns-clause-left g c).After-bring_home told) ∙ c.requires.staged told in
+    gate_batch l (g.D.Disk.content c.bring_home.new.disk) (g.D.Disk.content c.write_gate.new.disk) (batch_in c.args.area.now) c.requires.valid.few (c.write_gate.ensures.others told) is
+
+pub returns-clause-spare : goal.returns-clause-spare
+returns-clause-spare g c told spare =
+    let l = c.args.layout.now in
+    let stay = area g (goal.at.returns-clause-spare g c).After-bring_home told in
+    gate_spare l (g.D.Disk.content c.bring_home.new.disk) (g.D.Disk.content c.write_gate.new.disk) (batch_in c.args.area.now) c.requires.valid.few (c.write_gate.ensures.others told) (ap batch_in stay ∙ c.requires.staged told) (subst IsSpareZero (sym stay) spare)
 
 pub returns-clause-homes : goal.returns-clause-homes
 returns-clause-homes g c told =

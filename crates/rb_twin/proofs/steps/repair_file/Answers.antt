@@ -73,16 +73,9 @@ pub returns-clause-any_moment : goal.returns-clause-any_moment
 returns-clause-any_moment g c told twin =
     let here = goal.at.returns-clause-any_moment g c in done g here.After-finish told (begun g here.After-read_at told twin)
 
--- the gate that was found, and the batch
-opened : (g : Over) (c : After-finish g) → g.D.Disk.tells → twin_gate c.args.layout.now (g.D.Disk.content c.args.disk.now) ≡ 1
-opened g c told =
-    let l = c.args.layout.now in
-    let file = g.D.Disk.content c.args.disk.now in
-    let read = c.in_ok-read_at.ensures.value told ∙ area_of c.twin_at.result (length c.args.area.now) file l c.twin_at.ensures c.requires.area in
-    sym (gate_of c.read_at.new.into file l read) ∙ c.if-area-ne-OPEN.false
-
+-- the batch that was found
 found : (g : Over) (c : After-finish g) → g.D.Disk.tells → IsTwin c.args.layout.now (g.D.Disk.content c.args.disk.now)
-found g c told is =
+found g c told opened =
     let l = c.args.layout.now in
     let file = g.D.Disk.content c.args.disk.now in
     let read = c.in_ok-read_at.ensures.value told ∙ area_of c.twin_at.result (length c.args.area.now) file l c.twin_at.ensures c.requires.area in
@@ -96,18 +89,12 @@ returns-clause-homes g c told which =
     let l = c.args.layout.now in
     let file = g.D.Disk.content c.args.disk.now in
     let read = c.in_ok-read_at.ensures.value told ∙ area_of c.twin_at.result (length c.args.area.now) file l c.twin_at.ensures c.requires.area in
-    c.in_ok-finish.ensures.homes told which ∙ ap (λ (f : List ℕ). with_batch (batch_in c.read_at.new.into) which (home l f which)) (c.read_at.ensures.content told) ∙ ap (λ (a : List ℕ). with_batch (batch_in a) which (home l file which)) read ∙ sym (kept_open l file which (opened g (goal.at.returns-clause-homes g c).After-finish told))
+    let opened = sym (gate_of c.read_at.new.into file l read) ∙ c.if-area-ne-OPEN.false in
+    c.in_ok-finish.ensures.homes told which ∙ ap (λ (f : List ℕ). with_batch (batch_in c.read_at.new.into) which (home l f which)) (c.read_at.ensures.content told) ∙ ap (λ (a : List ℕ). with_batch (batch_in a) which (home l file which)) read ∙ sym (kept_open l file which opened)
 
--- A file that was found to have a batch is none of the others,
+-- A file that was found to have a batch is none of the others.
 pub returns-in_err-finish-clause-foreign : goal.returns-in_err-finish-clause-foreign
 returns-in_err-finish-clause-foreign g c told foreign = absurd (foreign (found g (goal.at.returns-in_err-finish-clause-foreign g c).After-finish told))
 
 pub returns-clause-foreign : goal.returns-clause-foreign
 returns-clause-foreign g c told foreign = absurd (foreign (found g (goal.at.returns-clause-foreign g c).After-finish told))
-
--- nor has it a shut gate.
-pub returns-in_err-finish-clause-untouched : goal.returns-in_err-finish-clause-untouched
-returns-in_err-finish-clause-untouched g c told shut = absurd (shut (opened g (goal.at.returns-in_err-finish-clause-untouched g c).After-finish told))
-
-pub returns-clause-untouched : goal.returns-clause-untouched
-returns-clause-untouched g c told shut = absurd (shut (opened g (goal.at.returns-clause-untouched g c).After-finish told))

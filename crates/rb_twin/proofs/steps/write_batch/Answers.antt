@@ -8,7 +8,7 @@ use Rattle.rb_twin.specs.Batches.{batch_in, with_batch}
 use Rattle.rb_twin.specs.Twins.{TwinSome, twin_area}
 use Rattle.rb_twin.specs.TwinLaws.{front_stays, homes_stay}
 use Rattle.rb_twin.proofs.HomeSteps.{but_both}
-use Rattle.rb_twin.proofs.KeptBlocks.{area_batch, area_spare, gate_batch, write_stage, write_opened, write_finished}
+use Rattle.rb_twin.proofs.KeptBlocks.{gate_batch, gate_spare, write_stage, write_opened, write_finished}
 use Rattle.rb_twin.proofs.steps.write_batch.Given.{Over}
 use Rattle.rb_twin.proofs.steps.write_batch.Goals.{After-stage, After-write_gate}
 use Rattle.rb_twin.proofs.steps.write_batch.Goals as goal
@@ -73,22 +73,15 @@ returns-clause-written g c told =
     let stay = homes_stay l (g.D.Disk.content c.args.disk.now) (g.D.Disk.content c.write_gate.new.disk) (both g (goal.at.returns-clause-written g c).After-write_gate told) in
     on_ok_weaker c.finish.result (λ homes which. homes which ∙ ap (with_batch (batch_in c.args.area.now) which) (stay which)) (c.finish.ensures.homes told)
 
--- The area behind the gate is as the first step staged it.
+-- The header is as the first step staged it, but for the gate.
 pub returns-clause-left : goal.returns-clause-left
-returns-clause-left g c told =
-    let l = c.args.layout.now in
-    let mid = g.D.Disk.content c.write_gate.new.disk in
-    let is = batch g (goal.at.returns-clause-left g c).After-write_gate told in
-    on_ok c.finish.result (area_batch l mid (g.D.Disk.content c.finish.new.disk) (batch_in c.args.area.now) c.requires.valid.few (c.finish.ensures.area told) is)
+returns-clause-left g c told = on_ok c.finish.result (c.finish.ensures.left told)
 
 pub returns-clause-spare : goal.returns-clause-spare
 returns-clause-spare g c told =
     let l = c.args.layout.now in
-    let first = g.D.Disk.content c.stage.new.disk in
-    let mid = g.D.Disk.content c.write_gate.new.disk in
-    let batch = batch_in c.args.area.now in
-    let is = c.in_ok-stage.ensures.staged told in
-    on_ok c.finish.result (area_spare l first (g.D.Disk.content c.finish.new.disk) batch c.requires.valid.few (c.finish.ensures.area told ∙ (c.write_gate.ensures.others told).area) is (c.in_ok-stage.ensures.spare told))
+    let staged = c.in_ok-stage.ensures in
+    on_ok c.finish.result (c.finish.ensures.spare told (gate_spare l (g.D.Disk.content c.stage.new.disk) (g.D.Disk.content c.write_gate.new.disk) (batch_in c.args.area.now) c.requires.valid.few (c.write_gate.ensures.others told) (staged.staged told) (staged.spare told)))
 
 pub returns-clause-outside : goal.returns-clause-outside
 returns-clause-outside g c told =
