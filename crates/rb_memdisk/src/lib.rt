@@ -2,10 +2,12 @@
 //! that a crash may leave.
 #![tactic(auto)]
 
+mod bytes;
 mod call;
 mod memory;
 mod pick;
 
+pub use bytes::{overwrite, with_room};
 pub use call::Call;
 pub use memory::MemDisk;
 pub use pick::Pick;

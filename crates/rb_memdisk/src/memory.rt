@@ -1,6 +1,6 @@
 //! `MemDisk`: a disk in memory. Tests of the layout, the log and the shell stand on it.
 ghost use Rattle.std.specs.Prelude.{◌≡◌, ◌+◌, ◌<◌, ◌≤◌, ◌⊎◌, ◌↔◌, ℕ, true, []};
-ghost use Rattle.std.specs.Prelude.{◌∷◌, ◌++◌, length, take, drop, count_by, vec_len, vec_capacity, max};
+ghost use Rattle.std.specs.Prelude.{◌∷◌, ◌++◌, length, take, drop, count_by, vec_len, vec_capacity};
 ghost use Rattle.std.specs.Prelude.{IsTrue, IsOk, IsErr, IfOk, OnOk, OnErr, is_ok};
 ghost use Rattle.rb_base.specs.Counts.{IsCounted, Rose};
 ghost use Rattle.rb_base.specs.Fields.{part, overwritten};
@@ -11,7 +11,7 @@ ghost use Rattle.rb_memdisk.specs.Record.{picked_after, picked_after_all, MayLea
 ghost use Rattle.rb_memdisk.specs.Record.{CanFill, is_sync};
 ghost use Rattle.rb_memdisk.specs.Replays.{reads_now, now_counts, only_now};
 
-use crate::{Call, Pick};
+use crate::{Call, Pick, overwrite, with_room};
 use rb_base::{Failed, NoMemory};
 use rb_disk::Disk;
 use std::alloc::{AllocError, Global};
@@ -204,29 +204,6 @@ impl MemDisk {
             done: true,
         });
     }
-}
-
-// A copy with this much room.
-fn with_room<T: Copy>(alloc: Global, items: &[T], room: usize) -> Result<Vec<T>, NoMemory>
-    requires { length items.now ≤ room }
-    ensures items { IfOk result (λ v. v.items ≡ items.now) }
-    ensures room { IfOk result (λ v. room ≤ vec_capacity v) }
-{
-    let mut copy = Vec::with_capacity(alloc, room).map_err(|_| NoMemory)?;
-    copy.extend_from_slice(items).map_err(|_| NoMemory)?;
-    Ok(copy)
-}
-
-// Writes a piece over what is there and past the end. It can fail only where it passes the capacity.
-fn overwrite(file: &mut Vec<u8>, at: usize, piece: &[u8]) -> Result<(), AllocError>
-    requires { at ≤ length file.old.items }
-    ensures written { OnOk result (file.new.items ≡ overwritten file.old.items at piece.now) }
-    ensures capacity { vec_capacity file.old ≤ vec_capacity file.new }
-    ensures succeeds { max (length file.old.items) (at + length piece.now) ≤ vec_capacity file.old → IsOk result }
-{
-    let inside = piece.len().min(file.len() - at);
-    file[at..at + inside].copy_from_slice(&piece[..inside]);
-    file.extend_from_slice(&piece[inside..])
 }
 
 // Does what a call did to a file, and answers how many of the written bytes it took.

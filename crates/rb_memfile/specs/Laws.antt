@@ -1,6 +1,8 @@
 -- How the calls of a memory file change its images: what is read is one of them, a write tears them, and a sync leaves
 -- no more of them.
-use Rattle.std.proofs.Common.{◌≡◌, ◌⊎◌, inl, inr, ⊎_elim, ◌==◌, ℕ, ◌+◌, ◌-◌, ◌^◌, ◌<◌, ◌≤◌, min, max, List, [], ◌++◌, length, take, drop, get_or, refl, sym, ap, subst, ◌∙◌, arith}
+use Rattle.std.proofs.Common.{◌≡◌, ◌⊎◌, inl, inr, ⊎_elim, ◌==◌, ℕ, ◌+◌, ◌-◌, ◌^◌}
+use Rattle.std.proofs.Common.{◌<◌, ◌≤◌, min, max, List, [], ◌++◌, length, take, drop, get_or, refl}
+use Rattle.std.proofs.Common.{sym, ap, subst, ◌∙◌, arith}
 use Rattle.std.specs.Prelude.{Bool, true, false}
 use Rattle.std.proofs.lemmas.Bool.{cases_lt, eqb-true, eq-eqb}
 use Rattle.std.proofs.lemmas.List.{places, ext_get_or, get_or-take, get_or-drop, length-take, length-drop}
@@ -10,11 +12,14 @@ use Rattle.rb_disk.specs.DiskModel.{Torn, Follows}
 use Rattle.rb_rawfile.specs.RawModel.{IsOf, IsSettled, HasLength, Wrote, with_range_of}
 use Rattle.rb_memfile.specs.declared.place.Place.{Place}
 use Rattle.rb_memfile.specs.declared.place.Place.TheVariants.{Settled, Dirty, Lost}
-use Rattle.rb_memfile.specs.Places.{IsUnsettled, IsLost, IsWrittenBack, after_write, after_sync, after_failure, written_back, at_place}
-use Rattle.rb_memfile.specs.Images.{History, IsImage, Seen, Leaves, LeftBefore, LeftSince, syncs_in, MayTear, HasLost, IsStored, StoresPart, IsSynced, IsDropped}
+use Rattle.rb_memfile.specs.Places.{IsUnsettled, IsLost, IsWrittenBack, after_write, after_sync, after_failure}
+use Rattle.rb_memfile.specs.Places.{written_back, at_place}
+use Rattle.rb_memfile.specs.Images.{History, IsImage, Seen, Leaves, LeftBefore, LeftSince, syncs_in, MayTear}
+use Rattle.rb_memfile.specs.Images.{HasLost, IsStored, StoresPart, IsSynced, IsDropped}
 
 -- bytes written over others
-over_long : (old piece : List ℕ) (at : ℕ) → at ≤ length old → length (overwritten old at piece) ≡ max (length old) (at + length piece)
+over_long : (old piece : List ℕ) (at : ℕ) → at ≤ length old → length (overwritten old at piece)
+    ≡ max (length old) (at + length piece)
 over_long old piece at begins = grind (arith, places)
 
 over_none : (old : List ℕ) (at : ℕ) → overwritten old at [] ≡ old
@@ -33,22 +38,26 @@ over_inside old piece at k begins from to = grind (arith, places)
 untorn : (c old : List ℕ) (at count : ℕ) → List ℕ
 untorn c old at count = take (length c) (take at c ++ part old at count ++ drop (at + count) c)
 
-module _ (c old : List ℕ) (at count : ℕ) (begins : at ≤ length old) (few : length c ≤ max (length old) (at + count)) where
+module _ (c old : List ℕ) (at count : ℕ) (begins : at ≤ length old)
+    (few : length c ≤ max (length old) (at + count)) where
   untorn_long : length (untorn c old at count) ≡ min (length c) (length old)
   unfolding untorn
   untorn_long = grind (arith, places)
 
-  untorn_outside : (k : ℕ) → k < length c → k < length old → (k < at) ⊎ (at + count ≤ k) → get_or (untorn c old at count) k 0 ≡ get_or c k 0
+  untorn_outside : (k : ℕ) → k < length c → k < length old → (k < at) ⊎ (at + count ≤ k)
+      → get_or (untorn c old at count) k 0 ≡ get_or c k 0
   unfolding untorn
   untorn_outside k lt within (inl before) = grind (arith, places)
   untorn_outside k lt within (inr behind) = grind (arith, places)
 
-  untorn_inside : (k : ℕ) → k < length c → k < length old → at ≤ k → k < at + count → get_or (untorn c old at count) k 0 ≡ get_or old k 0
+  untorn_inside : (k : ℕ) → k < length c → k < length old → at ≤ k → k < at + count
+      → get_or (untorn c old at count) k 0 ≡ get_or old k 0
   unfolding untorn
   untorn_inside k lt within from to = grind (arith, places)
 
 -- a place that is settled after a write was settled before it, and its byte is the same
-stays_settled : (same : Bool) (place : Place) → after_write same place ≡ Settled → (same ≡ true) × (place ≡ Settled)
+stays_settled : (same : Bool) (place : Place) → after_write same place ≡ Settled → (same ≡ true)
+    × (place ≡ Settled)
 stays_settled true Settled is = (refl, refl)
 stays_settled true Dirty is = (refl, is)
 stays_settled true Lost is = absurd (cc)
@@ -76,19 +85,22 @@ pub record IsThere (at : ℕ) (piece bytes : List ℕ) : Type 0 where
   pub each : (k : ℕ) → at ≤ k → k < at + length piece → get_or bytes k 0 ≡ get_or piece (k - at) 0
 
 -- so is a first part of them
-pub front_is_there : (at count : ℕ) (bytes content : List ℕ) → at ≤ length content → bytes ≡ part content at (length bytes)
+pub front_is_there : (at count : ℕ) (bytes content : List ℕ) → at ≤ length content → bytes
+    ≡ part content at (length bytes)
     → IsThere at (take count bytes) content
 front_is_there at count bytes content begins is =
     let long : length bytes ≡ min (length bytes) (length content - at) = ap length is ∙ grind (arith, places) in
     record {
       within = grind (arith, places);
       each = λ k from to.
-          let part_at : get_or (part content at (length bytes)) (k - at) 0 ≡ get_or content k 0 = grind (arith, places) in
+          let part_at : get_or (part content at (length bytes)) (k - at) 0
+          ≡ get_or content k 0 = grind (arith, places) in
           let front_at : get_or (take count bytes) (k - at) 0 ≡ get_or bytes (k - at) 0 = grind (arith, places) in
           sym (front_at ∙ ap (λ (l : List ℕ). get_or l (k - at) 0) is ∙ part_at);
     }
 
-module _ (at : ℕ) (piece : List ℕ) (old new : Seen) (begins : at ≤ length old.bytes) (stored : IsStored at piece old new) where
+module _ (at : ℕ) (piece : List ℕ) (old new : Seen) (begins : at ≤ length old.bytes)
+    (stored : IsStored at piece old new) where
   long_now : length new.bytes ≡ max (length old.bytes) (at + length piece)
   long_now = ap length stored.bytes ∙ over_long old.bytes piece at begins
 
@@ -96,13 +108,16 @@ module _ (at : ℕ) (piece : List ℕ) (old new : Seen) (begins : at ≤ length 
   outside_now k out = ap (λ (l : List ℕ). get_or l k 0) stored.bytes ∙ over_outside old.bytes piece at k begins out
 
   inside_now : (k : ℕ) → at ≤ k → k < at + length piece → get_or new.bytes k 0 ≡ get_or piece (k - at) 0
-  inside_now k from to = ap (λ (l : List ℕ). get_or l k 0) stored.bytes ∙ over_inside old.bytes piece at k begins from to
+  inside_now k from to = ap (λ (l : List ℕ). get_or l k 0) stored.bytes
+      ∙ over_inside old.bytes piece at k begins from to
 
   -- a place is before the piece, in it or behind it
-  by_range : (P : Type 0) (k : ℕ) → ((k < at) ⊎ (at + length piece ≤ k) → P) → (at ≤ k → k < at + length piece → P) → P
+  by_range : (P : Type 0) (k : ℕ) → ((k < at) ⊎ (at + length piece ≤ k) → P)
+      → (at ≤ k → k < at + length piece → P) → P
   by_range P k out inside =
       ⊎_elim (λ (before : k < at). out (inl before))
-      (λ (from : at ≤ k). ⊎_elim (λ (to : k < at + length piece). inside from to) (λ (behind : at + length piece ≤ k). out (inr behind))
+      (λ (from : at ≤ k). ⊎_elim (λ (to : k < at + length piece). inside from to)
+      (λ (behind : at + length piece ≤ k). out (inr behind))
       (cases_lt k (at + length piece))) (cases_lt k at)
 
   settled_before : (k : ℕ) → k < length old.bytes → at_place new.places k ≡ Settled
@@ -141,16 +156,20 @@ module _ (at : ℕ) (piece : List ℕ) (old new : Seen) (begins : at ≤ length 
           settled = λ k lt is.
               let lt_c : k < length c = omega (arith, lt, long) in
               let here : k < length old.bytes = omega (arith, lt, long) in
-              let out : (k < at) ⊎ (at + count ≤ k) → (k < at) ⊎ (at + length piece ≤ k) → get_or d k 0 ≡ get_or old.bytes k 0 =
-              λ of_count of_piece. outside k lt_c here of_count ∙ left.settled k lt_c (stored.marked.outside k of_piece ∙ is)
+              let out : (k < at) ⊎ (at + count ≤ k) → (k < at) ⊎ (at + length piece ≤ k) → get_or d k 0
+              ≡ get_or old.bytes k 0 =
+              λ of_count of_piece. outside k lt_c here of_count
+              ∙ left.settled k lt_c (stored.marked.outside k of_piece ∙ is)
               ∙ outside_now k of_piece in
               ⊎_elim (λ (before : k < at). out (inl before) (inl before))
               (λ (from : at ≤ k). ⊎_elim (λ (to : k < at + count). inside k lt_c here from to)
-              (λ (behind : at + count ≤ k). out (inr behind) (inr (omega (arith, behind, wide)))) (cases_lt k (at + count)))
+              (λ (behind : at + count ≤ k). out (inr behind) (inr (omega (arith, behind, wide))))
+              (cases_lt k (at + count)))
               (cases_lt k at);
         },
         record {
-          before = ext_get_or 0 (take at c) (take at d) (omega (arith, length-take at c, length-take at d, long, begins)) (λ k lt.
+          before = ext_get_or 0 (take at c) (take at d)
+              (omega (arith, length-take at c, length-take at d, long, begins)) (λ k lt.
               let before : k < at = omega (arith, lt, length-take at c) in
               let lt_c : k < length c = omega (arith, lt, length-take at c) in
               get_or-take at c k 0 before ∙ sym (outside k lt_c (omega (arith, before, begins)) (inl before))
@@ -181,7 +200,8 @@ module _ (at : ℕ) (piece : List ℕ) (old new : Seen) (begins : at ≤ length 
         no_shorter = omega (arith, left.no_shorter, stored.shortest);
         no_longer = omega (arith, left.no_longer, long_now, there.within);
         settled = λ k lt is.
-            left.settled k lt (by_range (at_place new.places k ≡ Settled) k (λ out. stored.marked.outside k out ∙ is)
+            left.settled k lt (by_range (at_place new.places k ≡ Settled) k
+            (λ out. stored.marked.outside k out ∙ is)
             (λ from to. over_there there k from to ∙ found_settled (at_place old.places k) is)) ∙ same k;
       }
 
@@ -191,14 +211,17 @@ module _ (at : ℕ) (piece : List ℕ) (old new : Seen) (begins : at ≤ length 
       (λ from to. found_unsettled (at_place old.places k) (subst IsUnsettled (over_there there k from to) tears))
 
   -- no place may tear but in the range, and what is written is found
-  pub stored_places : (count : ℕ) → length piece ≤ count → NoMore (with_range_of at count (MayTear old)) (MayTear new)
+  pub stored_places : (count : ℕ) → length piece ≤ count
+      → NoMore (with_range_of at count (MayTear old)) (MayTear new)
   stored_places count wide k tears =
-      by_range (MayTear old k ⊎ IsOf at count k) k (λ out. inl (subst IsUnsettled (stored.marked.outside k out) tears))
+      by_range (MayTear old k ⊎ IsOf at count k) k
+      (λ out. inl (subst IsUnsettled (stored.marked.outside k out) tears))
       (λ from to. inr (from, omega (arith, to, wide)))
 
   not_lost : (k : ℕ) → at ≤ k → k < at + length piece → HasLost new k → ⊥
   not_lost k from to lost =
-      ⊎_elim (λ (here : k < length old.bytes). never_lost (get_or old.bytes k 0 == get_or piece (k - at) 0) (at_place old.places k)
+      ⊎_elim (λ (here : k < length old.bytes). never_lost (get_or old.bytes k 0 == get_or piece (k - at) 0)
+      (at_place old.places k)
       (subst IsLost (stored.marked.over k from to here) lost))
       (λ (far : length old.bytes ≤ k). subst IsLost (stored.marked.past k to far) lost)
       (cases_lt k (length old.bytes))
@@ -222,9 +245,12 @@ stays_in_time old new same grows =
     subst (λ (past : History). LeftBefore past k c) (sym same) in
     record {
       later = omega (arith, count);
-      splits = λ t c le. ⊎_elim (λ earlier. inl (inl (earlier.0, earlier.1, omega (arith, earlier.2, count), before earlier.0 c earlier.3)))
+      splits = λ t c le. ⊎_elim
+          (λ earlier. inl
+          (inl (earlier.0, earlier.1, omega (arith, earlier.2, count), before earlier.0 c earlier.3)))
           (λ now. inr now.1);
-      stay = λ t c le. ⊎_elim (λ earlier. inl (earlier.0, earlier.1, omega (arith, earlier.2, count), again earlier.0 c earlier.3))
+      stay = λ t c le. ⊎_elim
+          (λ earlier. inl (earlier.0, earlier.1, omega (arith, earlier.2, count), again earlier.0 c earlier.3))
           (λ now. inr (omega (arith, le, count), grows c now.1));
     }
 
@@ -247,12 +273,14 @@ lost_or_settled Settled = inr refl
 lost_or_settled Dirty = inr refl
 lost_or_settled Lost = inl tt
 
-settled_is_back : (place : Place) (read was : ℕ) → after_sync place ≡ Settled → written_back place read was ≡ read
+settled_is_back : (place : Place) (read was : ℕ) → after_sync place ≡ Settled → written_back place read was
+    ≡ read
 settled_is_back Settled read was is = refl
 settled_is_back Dirty read was is = refl
 settled_is_back Lost read was is = absurd (cc)
 
-module _ (shortest : ℕ) (old new : Seen) (no_less : old.shortest ≤ shortest) (synced : IsSynced shortest old new) where
+module _ (shortest : ℕ) (old new : Seen) (no_less : old.shortest ≤ shortest)
+    (synced : IsSynced shortest old new) where
   pub synced_images : NoMore (Leaves old) (Leaves new)
   synced_images c left = record {
     no_shorter = omega (arith, left.no_shorter, synced.shortest_is, no_less);
@@ -280,19 +308,26 @@ module _ (shortest : ℕ) (old new : Seen) (no_less : old.shortest ≤ shortest)
   synced_time = record {
     later = omega (arith, synced.count);
     splits = λ t c le. ⊎_elim (λ earlier. ⊎_elim
-        (λ (before : earlier.0 < syncs_in old). inl (inl (earlier.0, earlier.1, before, (synced.earlier earlier.0 c before).0 earlier.3)))
+        (λ (before : earlier.0 < syncs_in old). inl
+        (inl (earlier.0, earlier.1, before, (synced.earlier earlier.0 c before).0 earlier.3)))
         (λ (last : syncs_in old ≤ earlier.0).
         let is : earlier.0 ≡ syncs_in old = omega (arith, last, earlier.2, synced.count) in
         inl (inr (le, (synced.last c).0 (subst (λ (k : ℕ). LeftBefore new.past k c) is earlier.3))))
         (cases_lt earlier.0 (syncs_in old)))
         (λ now. inr now.1);
     stay = λ t c le. ⊎_elim
-        (λ earlier. inl (earlier.0, earlier.1, omega (arith, earlier.2, synced.count), (synced.earlier earlier.0 c earlier.2).1 earlier.3))
+        (λ earlier. inl (
+          earlier.0,
+          earlier.1,
+          omega (arith, earlier.2, synced.count),
+          (synced.earlier earlier.0 c earlier.2).1 earlier.3,
+        ))
         (λ now. inl (syncs_in old, le, omega (arith, synced.count), (synced.last c).1 now.1));
   }
 
   -- what the device has is an image
-  pub synced_device : (device now : List ℕ) → IsWrittenBack old.bytes old.places device now → shortest ≤ length old.bytes → Leaves new now
+  pub synced_device : (device now : List ℕ) → IsWrittenBack old.bytes old.places device now
+      → shortest ≤ length old.bytes → Leaves new now
   synced_device device now back fits = record {
     no_shorter = omega (arith, back.long, synced.shortest_is, fits);
     no_longer = omega (arith, back.long, ap length synced.bytes);
@@ -397,7 +432,8 @@ pub few : (len capacity count : ℕ) → (len ≡ count) × (len ≤ capacity) �
 few len capacity count ok small = omega (arith, ok.0, ok.1, small)
 
 -- no bytes are written where nothing changes
-pub stores_none : (at : ℕ) (bytes : List ℕ) (old new : Seen) → at ≤ length old.bytes → length old.places ≡ length old.bytes
+pub stores_none : (at : ℕ) (bytes : List ℕ) (old new : Seen) → at ≤ length old.bytes → length old.places
+    ≡ length old.bytes
     → new ≡ old → StoresPart at bytes old new
 stores_none at bytes old new begins one same =
     let none : IsStored at (take 0 bytes) old old = record {

@@ -1,5 +1,6 @@
 -- What a memory file is seen as.
-use Rattle.std.specs.Prelude.{◌≡◌, ℕ, ◌+◌, ◌-◌, ◌^◌, ◌<◌, ◌≤◌, min, List, length, Contains}
+use Rattle.std.specs.Prelude.{◌≡◌, ℕ, ◌+◌, ◌-◌, ◌^◌, ◌<◌, ◌≤◌, min, List, length}
+use Rattle.std.specs.Prelude.{Contains}
 use Rattle.rb_memfile.specs.declared.place.Place.{Place}
 use Rattle.rb_memfile.specs.declared.memory.MemFile.{MemFile}
 use Rattle.rb_memfile.specs.Images.{Seen, Leaves, LeftSince, MayTear, HasLost, syncs_in}

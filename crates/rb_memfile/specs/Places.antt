@@ -1,5 +1,6 @@
 -- What is known of the byte on the device at a place, and how calls change it.
-use Rattle.std.specs.Prelude.{◌≡◌, ◌⊎◌, ℕ, ◌+◌, ◌-◌, ◌<◌, ◌≤◌, ◌==◌, Bool, true, false, List, length, max, get_or}
+use Rattle.std.specs.Prelude.{◌≡◌, ◌⊎◌, ℕ, ◌+◌, ◌-◌, ◌<◌, ◌≤◌, ◌==◌, Bool, true}
+use Rattle.std.specs.Prelude.{false, List, length, max, get_or}
 use Rattle.rb_memfile.specs.declared.place.Place.{Place}
 use Rattle.rb_memfile.specs.declared.place.Place.TheVariants.{Settled, Dirty, Lost}
 
@@ -48,9 +49,11 @@ at_place places place = get_or places place Settled
 -- The places after these bytes were written at an offset, where `bytes` was read.
 pub record IsMarked (at : ℕ) (piece bytes : List ℕ) (places now : List Place) : Type 0 where
   pub long : length now ≡ max (length places) (at + length piece)
-  pub outside : (place : ℕ) → (place < at) ⊎ (at + length piece ≤ place) → at_place now place ≡ at_place places place
+  pub outside : (place : ℕ) → (place < at) ⊎ (at + length piece ≤ place) → at_place now place
+      ≡ at_place places place
   pub over : (place : ℕ) → at ≤ place → place < at + length piece → place < length bytes
-      → at_place now place ≡ after_write (get_or bytes place 0 == get_or piece (place - at) 0) (at_place places place)
+      → at_place now place ≡ after_write (get_or bytes place 0 == get_or piece (place - at) 0)
+      (at_place places place)
   -- a new place
   pub past : (place : ℕ) → place < at + length piece → length bytes ≤ place → at_place now place ≡ Dirty
 

@@ -1,6 +1,7 @@
 //! How a call changes what is known of each place, and what a sync writes back. `MemFile` calls these on its bytes.
-ghost use Rattle.std.specs.Prelude.{◌≡◌, ◌==◌, ◌<◌, ◌≤◌, ◌+◌, ◌-◌, ◌^◌, ◌⊎◌, ℕ, length, get_or, max, IsOk, OnOk, vec_len, vec_capacity};
-ghost use Rattle.rb_base.specs.Fields.{overwritten};
+ghost use Rattle.std.specs.Prelude.{◌≡◌, ◌==◌, ◌<◌, ◌≤◌, ◌+◌, ◌-◌, ◌^◌, ◌⊎◌};
+ghost use Rattle.std.specs.Prelude.{ℕ, length};
+ghost use Rattle.std.specs.Prelude.{get_or, max, IsOk, OnOk, vec_len, vec_capacity};
 ghost use Rattle.rb_memfile.specs.Places.{IsMarked, at_place, after_write, after_sync, after_failure, written_back};
 
 use crate::Place;
@@ -32,7 +33,8 @@ fn mark_over(places: &mut [Place], bytes: &[u8], at: usize, piece: &[u8])
     requires within { at + length piece.now ≤ length places.old }
     ensures over { (k : ℕ) → at ≤ k → k < at + length piece.now → at_place places.new k
         ≡ after_write (get_or bytes.now k 0 == get_or piece.now (k - at) 0) (at_place places.old k) }
-    ensures outside { (k : ℕ) → (k < at) ⊎ (at + length piece.now ≤ k) → at_place places.new k ≡ at_place places.old k }
+    ensures outside { (k : ℕ) → (k < at) ⊎ (at + length piece.now ≤ k) → at_place places.new k
+        ≡ at_place places.old k }
 {
     for (i, byte) in piece.iter().enumerate() {
         places[at + i] = places[at + i].written(bytes[at + i] == *byte);
@@ -69,16 +71,4 @@ pub(crate) fn write_back(device: &mut [u8], bytes: &[u8], places: &[Place])
             device[i] = bytes[i];
         }
     }
-}
-
-/// Writes a piece over what is there and past the end. It can fail only where it passes the capacity.
-pub(crate) fn overwrite(file: &mut Vec<u8>, at: usize, piece: &[u8]) -> Result<(), AllocError>
-    requires { at ≤ length file.old.items }
-    ensures written { OnOk result (file.new.items ≡ overwritten file.old.items at piece.now) }
-    ensures capacity { vec_capacity file.old ≤ vec_capacity file.new }
-    ensures succeeds { max (length file.old.items) (at + length piece.now) ≤ vec_capacity file.old → IsOk result }
-{
-    let inside = piece.len().min(file.len() - at);
-    file[at..at + inside].copy_from_slice(&piece[..inside]);
-    file.extend_from_slice(&piece[inside..])
 }

@@ -1,5 +1,6 @@
 //! `MemFile`: a raw file in memory. Tests of the file disk stand on it.
-ghost use Rattle.std.specs.Prelude.{◌≡◌, ◌+◌, ◌-◌, ◌/◌, ◌^◌, ◌<◌, ◌≤◌, ◌⊎◌, ◌↔◌, ℕ, [], min, max, replicate};
+ghost use Rattle.std.specs.Prelude.{◌≡◌, ◌+◌, ◌-◌, ◌/◌, ◌^◌, ◌<◌, ◌≤◌, ◌⊎◌};
+ghost use Rattle.std.specs.Prelude.{◌↔◌, ℕ, [], min, max, replicate};
 ghost use Rattle.std.specs.Prelude.{length, take, get_or, vec_len, vec_capacity};
 ghost use Rattle.std.specs.Prelude.{IsTrue, false, IsOk, IsErr, IfOk, OnOk, OnErr};
 ghost use Rattle.std.proofs.Props.{props};
@@ -12,9 +13,10 @@ ghost use Rattle.rb_memfile.specs.Images.{IsImage, Leaves, LeftSince, IsStored, 
 ghost use Rattle.rb_memfile.specs.Laws.{reads_what_it_has, now_counts, only_now, loses_unsettled, few};
 
 use crate::Place;
-use crate::marks::{lose, mark, overwrite, settle, write_back};
+use crate::marks::{lose, mark, settle, write_back};
 use crate::past::Past;
 use rb_base::NoMemory;
+use rb_memdisk::{overwrite, with_room};
 use rb_rawfile::{Cause, RawFile};
 use std::alloc::Global;
 use std::io::{self, ErrorKind};
@@ -239,17 +241,6 @@ impl MemFile {
     }
 }
 
-// A copy with this much room.
-fn with_room<T: Copy>(alloc: Global, items: &[T], room: usize) -> Result<Vec<T>, NoMemory>
-    requires { length items.now ≤ room }
-    ensures items { IfOk result (λ v. v.items ≡ items.now) }
-    ensures room { IfOk result (λ v. room ≤ vec_capacity v) }
-{
-    let mut copy = Vec::with_capacity(alloc, room).map_err(|_| NoMemory)?;
-    copy.extend_from_slice(items).map_err(|_| NoMemory)?;
-    Ok(copy)
-}
-
 // So many settled places, with this much room.
 fn all_settled(alloc: Global, count: usize, room: usize) -> Result<Vec<Place>, NoMemory>
     requires { count ≤ room }
@@ -262,7 +253,15 @@ fn all_settled(alloc: Global, count: usize, room: usize) -> Result<Vec<Place>, N
 }
 
 impl RawFile for MemFile {
-    ghost use Rattle.rb_memfile.specs.MemFile.{bytes_of, device_of, places_of, room_of, faults_of, seen_of, shortest_of};
+    ghost use Rattle.rb_memfile.specs.MemFile.{
+      bytes_of,
+      device_of,
+      places_of,
+      room_of,
+      faults_of,
+      seen_of,
+      shortest_of,
+    };
     ghost use Rattle.rb_memfile.specs.MemFile.{syncs_of, LeavesNow, LeavesSince, Unsettled, LostPlace, one_more};
     ghost use Rattle.rb_memfile.specs.MemFile.{IsTold, PassesEnd, PassesRoom, IsSpent, IsCalled, IsUntouched};
 

@@ -1,5 +1,6 @@
 //! What a memory file was before each sync that succeeded. `MemFile` adds to it, and its contracts speak of it.
-ghost use Rattle.std.specs.Prelude.{◌≡◌, ◌+◌, ◌-◌, ◌*◌, ◌<◌, ◌≤◌, ◌↔◌, ℕ, IfOk, List};
+ghost use Rattle.std.specs.Prelude.{◌≡◌, ◌+◌, ◌-◌, ◌*◌, ◌<◌, ◌≤◌, ◌↔◌, ℕ, IfOk};
+ghost use Rattle.std.specs.Prelude.{List};
 ghost use Rattle.std.specs.Prelude.{length, vec_len, vec_capacity, IsTrue};
 ghost use Rattle.std.proofs.Props.{props};
 ghost use Rattle.rb_memfile.specs.Images.{IsImage, LeftBefore, nth_snapshot};
