@@ -109,8 +109,12 @@ async def main(file, socket):
                                                start_new_session=True)
     for end in (signal.SIGINT, signal.SIGTERM):
         asyncio.get_running_loop().add_signal_handler(end, run.stdin.close)
-    await asyncio.start_unix_server(Hub(run).serve, socket)
-    return await run.wait()
+    server = await asyncio.start_unix_server(Hub(run).serve, socket)
+    status = await run.wait()
+    # Nobody more is let in, and who came just before begins, so that all are told that it ends.
+    server.close()
+    await asyncio.sleep(0.1)
+    return status
 
 
 if __name__ == "__main__":
