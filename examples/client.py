@@ -5,9 +5,11 @@
         ann = store.session(1)
         ann.ask("insert 1 7 window")        # the line `insert 1 1 7 window`: a session puts in its own number
         ann.ask("commit")                   # gives ["committed 1"]
+        ann.get(1, 7)                       # gives "window"
 
 The program is that of this repository, or the one that RBSH names. `Connection` is for several programs that share one by
 examples/hub.py."""
+import collections
 import contextlib
 import os
 import pathlib
@@ -17,9 +19,12 @@ import subprocess
 BUILT = pathlib.Path(__file__).resolve().parent.parent / "crates" / "rbsh" / "out" / "rbsh"
 PROGRAM = os.environ.get("RBSH") or str(BUILT)
 # The commands that name no session.
-ALONE = ("marks", "flush", "checkpoint")
-# The first words of all replies that refuse nothing.
-DONE = {"ok", "committed", "numbered", "flushed", "row", "end", "waits", "segment"}
+ALONE = ("sessions", "marks", "flush", "checkpoint")
+# The first words of all replies that refuse nothing. A `get` is also answered "not found", which is no refusal.
+DONE = {"ok", "committed", "numbered", "flushed", "row", "end", "waits", "segment", "session"}
+
+# What a session has under way: how many changes and cursors, its mode, and the number of the session for which it waits.
+UnderWay = collections.namedtuple("UnderWay", ["changes", "cursors", "mode", "waits"])
 
 
 class Refused(Exception):
@@ -53,15 +58,23 @@ class Store:
 
     def ask(self, line):
         """All replies to a line, as they are. No reply says that it is the last one. So a line that is always bad is sent
-        after each, and its `bad line` is the end. The line itself has at least one reply, which may be `bad line` too."""
+        after each, and its `bad line` is the end. The line itself has at least one reply, which may be `bad line` too.
+        The line `sessions` alone may have none, and is never bad."""
         if not line.strip() or line.startswith("#") or "\n" in line:
             raise ValueError(f"this is no command: {line!r}")
         with contextlib.suppress(BrokenPipeError):
             os.write(self.run.stdin.fileno(), f"{line}\n?\n".encode())
-        replies = [self.reply()]
-        while replies[1:2] == [] or replies[-1] != "bad line":
+        replies, least = [], 0 if line == "sessions" else 1
+        while len(replies) <= least or replies[-1] != "bad line":
             replies.append(self.reply())
         return replies[:-1]
+
+    def under_way(self):
+        """What the sessions have under way, by their numbers: those that have nothing aren't there."""
+        told = {}
+        for _, number, _, changes, _, cursors, _, mode, *waits in map(str.split, self.ask("sessions")):
+            told[int(number)] = UnderWay(int(changes), int(cursors), mode, int(waits[1]) if waits else None)
+        return told
 
     def reply(self):
         """The next reply. Where the program has ended there is none; it has written the reason to standard error."""
@@ -101,9 +114,17 @@ class Session:
         return self.checked(self.waiting, last)[0] if last else None
 
     def checked(self, line, replies):
-        if replies[-1].split(" ")[0] not in DONE:
+        if is_refused(line, replies[-1]):
             raise Refused(line, replies)
         return replies
+
+    def get(self, table, key):
+        """The value of a key, or None where it has no row."""
+        return value_by(self.ask, table, key)
+
+    def put(self, table, key, value):
+        """Makes a row, or gives it another value where it is there. Gives the reply, "ok" or "waits H"."""
+        return self.ask(f"put {table} {key} {value}")[0]
 
     def rows(self, table, low, high, ordered=False):
         """The rows of a range of keys, all of one moment, as pairs of key and value. They come by block and then by key, and
@@ -144,13 +165,32 @@ class Connection:
         while replies[-1:] and replies[-1].startswith("waits "):
             self.waited += 1
             replies = [self.read()]
-        if replies[-1:] and replies[-1].split(" ")[0] not in DONE:
+        if replies[-1:] and is_refused(line, replies[-1]):
             raise Refused(line, replies)
         return replies
+
+    def get(self, table, key):
+        """As that of a session."""
+        return value_by(self.ask, table, key)
+
+    def put(self, table, key, value):
+        """As that of a session. It comes back once the write waits no more."""
+        return self.ask(f"put {table} {key} {value}")[0]
 
     def rows(self, table, low, high):
         """As those of a session."""
         return rows_by(self.ask, table, low, high)
+
+
+def is_refused(line, reply):
+    """Whether this last reply to a line refuses it."""
+    return reply.split(" ")[0] not in DONE and not (line.startswith("get ") and reply == "not found")
+
+
+def value_by(ask, table, key):
+    """The value of a key, by one line."""
+    reply, = ask(f"get {table} {key}")
+    return None if reply == "not found" else reply.split(" ")[2]
 
 
 def rows_by(ask, table, low, high):

@@ -19,17 +19,12 @@ HUB = pathlib.Path(__file__).resolve().parent / "hub.py"
 PROCESSES, EACH = 5, 20
 
 
-def counter(hub):
-    (_, value), = hub.rows(1, 1, 1)
-    return int(value)
-
-
 def add(path):
     """What one of the processes does."""
     hub = Connection(path)
     for _ in range(EACH):
         hub.ask("lock 1 1")
-        hub.ask(f"update 1 1 {counter(hub) + 1}")
+        hub.put(1, 1, int(hub.get(1, 1)) + 1)
         hub.ask("commit")
     # A line in one write, as all processes write to one output.
     print(f"  {EACH} additions, waited {hub.waited} times\n", end="", flush=True)
@@ -38,7 +33,7 @@ def add(path):
 def give_up(path):
     """What the sixth does."""
     hub = Connection(path)
-    hub.ask("update 1 1 1000000")
+    hub.put(1, 1, 1000000)
     print("  sets it to 1000000, and ends before it commits", flush=True)
     os._exit(0)
 
@@ -58,12 +53,12 @@ def started(file, path):
 def shared(path):
     """Lets the processes work. Gives how they ended, and the counter then."""
     first = Connection(path)
-    first.ask("insert 1 1 0")
+    first.put(1, 1, 0)
     first.ask("commit")
     print(f"{PROCESSES + 1} processes:")
     words = [sys.executable, __file__, "--process", path]
     processes = [subprocess.Popen([*words, kind]) for kind in ["add"] * PROCESSES + ["give up"]]
-    return [process.wait() for process in processes], counter(first)
+    return [process.wait() for process in processes], first.get(1, 1)
 
 
 def main(file, path):
@@ -75,9 +70,9 @@ def main(file, path):
         hub.send_signal(signal.SIGTERM)
         status = hub.wait()
     with Store(file) as store:
-        rows = store.session(1).rows(1, 0, 9)
-    if any([status, *statuses]) or told != PROCESSES * EACH or rows != [(1, str(told))]:
-        raise SystemExit(f"ended with {status} and {statuses}: the counter was {told}, the file has {rows}")
+        found = store.session(1).get(1, 1)
+    if any([status, *statuses]) or told != str(PROCESSES * EACH) or found != told:
+        raise SystemExit(f"ended with {status} and {statuses}: the counter was {told}, the file has {found}")
     print(f"checked: the counter is {told}, in the file too, so no addition was lost")
 
 

@@ -40,13 +40,14 @@ class Hub:
             return await self.send(line, session)
 
     async def send(self, line, session=None):
-        """Sends a line, and a bad one whose `bad line` ends its replies. Gives those that name this session or none, without
-        its number. Each other one goes to the connection whose session it names."""
+        """Sends a line, and a bad one whose `bad line` ends its replies: one at least, but for `sessions`, which may have
+        none. Gives those that name this session or none, without its number. Each other one goes to the connection whose
+        session it names."""
         if self.run.stdin.is_closing():
             raise ConnectionError("the hub ends")
         self.run.stdin.write(f"{line}\n?\n".encode("latin-1"))
-        own, reply = [], await self.reply()
-        while True:
+        own, may_end = [], line == "sessions"
+        while (reply := await self.reply()) != "bad line" or not may_end:
             to, _, words = reply.partition(" ")
             if not to.isdigit():
                 own.append(reply)
@@ -54,9 +55,8 @@ class Hub:
                 own.append(words)
             elif to in self.writers:
                 self.writers[to].write(f"{words}\n".encode())
-            reply = await self.reply()
-            if reply == "bad line":
-                return own
+            may_end = True
+        return own
 
     async def commit(self, session):
         """The replies to a `commit`, by group commit: a `commit S later` makes it, and then it waits for its turn to `flush`.

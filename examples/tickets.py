@@ -63,7 +63,7 @@ def book(shop, number, seat):
     while True:
         try:
             with Connection(shop.path) as hub:
-                if asked and hub.rows(BOOKINGS_TABLE, number, number):
+                if asked and hub.get(BOOKINGS_TABLE, number):
                     shop.found.append(number)
                     return True
                 hub.ask(f"insert {SEATS_TABLE} {seat} {number}")

@@ -85,7 +85,7 @@ with Store("store.rb") as store:
     print([s[1].ask("insert 1 1 a"), s[1].ask("insert 1 2 row"), s[1].ask("commit"), s[1].rows(1, 0, 9)])
     print([refused(s[1].ask, line) for line in ["insert 1 1 b", "nothing", "fetch c 1", "insert 1 3 " + "x" * 600]])
     print([refused(ask, line) for ask, line in [(store.ask, ""), (store.ask, "# insert 1 1 1 a"), (store.ask, "marks\\nmarks"),
-                                                (s[1].ask, "flush")]])
+                                                (s[1].ask, "flush"), (s[1].ask, "sessions")]])
     print([store.ask("bad"), store.ask("marks"), store.ask("checkpoint"), store.ask("bad line")])
     print([s[n].ask("update 1 1 v%d" % n) for n in range(1, 6)] + [s[n].wait() for n in range(1, 6)])
     print([s[1].ask("commit"), [s[n].wait() for n in range(2, 6)], refused(s[3].ask, "commit")])
@@ -99,6 +99,12 @@ with Store("store.rb") as store:
     print([s[8].ask("rollback"), [s[10].ask("update 1 2 z%d" % n) for n in range(150)][-1]])
     s[10].ask("rollback")
     print([s[11].ask("insert 1 4 d"), s[11].ask("commit later"), s[12].ask("commit later"), store.ask("flush")])
+    for n in range(1, 17):
+        s[n].ask("rollback")
+    print([store.under_way(), s[13].get(1, 4), s[13].get(1, 5), s[13].ask("get 1 5"), s[13].put(1, 5, "e"), s[13].get(1, 5)])
+    print([s[14].put(1, 5, "f"), refused(s[14].ask, "get 1 5"), refused(s[12].ask, "get 2 5"), s[12].get(1, 5)])
+    print([{n: tuple(way) for n, way in store.under_way().items()}, s[13].ask("commit"), s[14].wait(), s[14].get(1, 5)])
+    print([s[12].ask("set read-only"), s[12].ask("open c 1 0 9"), store.under_way()[12].mode, store.under_way()[12].cursors])
 try:
     with Store("missing/store.rb") as store:
         store.ask("marks")
@@ -115,7 +121,7 @@ def client_answers(place):
     wanted = [
         [["ok"], ["ok"], ["committed 1"], [(1, "a"), (2, "row")]],
         [["duplicate", []], ["bad line", []], ["no cursor", []], ["bad line", []]],
-        ["ValueError"] * 4,
+        ["ValueError"] * 5,
         [["bad line"], segments, ["ok"], ["bad line"]],
         [["ok"], *[["waits 1"]] * 4, *[None] * 5],
         [["committed 2"], ["ok", None, None, None], ["waiting", []]],
@@ -126,6 +132,10 @@ def client_answers(place):
         [["ok"], ["ok"], ["waits 9"], ["ok"], ["committed 4"], ["cannot serialize 3 4", []]],
         [["ok"], ["ok"]],
         [["ok"], ["numbered 5"], ["ok"], ["flushed 5"]],
+        [{}, "d", None, ["not found"], "ok", "e"],
+        ["waits 13", ["waiting", []], ["no table", []], None],
+        [{13: (1, 0, "read-committed", None), 14: (0, 0, "read-committed", 13)}, ["committed 6"], "ok", "f"],
+        [["ok"], ["ok"], "read-only", 1],
     ]
     for found, right in zip(told, wanted):
         equal("replies", ast.literal_eval(found), right)
@@ -314,6 +324,23 @@ def hub_dialogue(path):
     return "five kinds of lines, sixteen sessions"
 
 
+def hub_gets(place):
+    """hub.py gives the replies to get, put and sessions, which may have none"""
+    file, path = place.store(log=256), str(place.folder / "hub")
+    with hub_at(path, place, file):
+        ann, ben = Line(path), Line(path)
+        equal("nothing under way", [ann.ask("sessions"), ann.ask("sessions"), ann.ask("sessions 1")], [[], [], ["bad line"]])
+        equal("one row", [ann.ask(line) for line in ["get 1 2", "put 1 2 p", "get 1 2"]], [["not found"], ["ok"], ["row 2 p"]])
+        equal("who waits", [ben.ask("put 1 2 q"), ben.ask("get 1 2"), ann.ask("sessions")],
+              [["waits 1"], ["waiting"], ["session 1 changes 1 cursors 0 mode read-committed",
+                                          "session 2 changes 0 cursors 0 mode read-committed waits 1"]])
+        equal("the end of a wait", [ann.ask("commit"), ben.next(), ben.ask("get 1 2"), ann.ask("get 1 2")],
+              [["committed 1"], "ok", ["row 2 q"], ["row 2 p"]])
+        for line in (ann, ben):
+            line.close()
+    equal("rows", rows(place, file, 1), {2: "p"})
+
+
 # A program over a slow device, which is killed in place of the first flush after a value `last`. It notes its lines.
 SLOW = """#!{python}
 import subprocess, sys, time
@@ -393,7 +420,7 @@ def readable(check):
 
 
 CHECKS = [readable(check) for check in (readme_lines, client_answers, seats_sold, book_reported, counter_counts, hub_routes,
-                                        hub_groups, tickets_booked)]
+                                        hub_gets, hub_groups, tickets_booked)]
 
 
 class Place:

@@ -1,6 +1,6 @@
-"""What right replies are: a second machine of lines, replies, rows, books, slot entries and copies of homes, by
-docs/MODEL.md and docs/UNDO.md alone. It knows no bytes of a block and no file, and shares nothing with the program or
-with tools/. tests/model_check compares it with the program.
+"""What right replies are: a second machine of lines, replies, rows, books, slot entries and copies of homes, by what is told
+of the machine in docs/COMMANDS.md, docs/MODEL.md and docs/UNDO.md. It knows no bytes of a block and no file, and shares nothing
+with the program or with tools/. tests/model_check compares it with the program.
 
 All replies follow from the lines, but for one number: a `too old` tells what the segment concerned has lost, and where
 several are concerned in a home any of them may be told. So the machine is told what the program said, and takes that
@@ -21,12 +21,13 @@ MODE = (f"({'|'.join(MODES)})", None)
 # When a commit is made last that isn't at once.
 LATER = ("(later)", None)
 COMMANDS = [
-    ("insert", ID, ID, KEY, VALUE), ("update", ID, ID, KEY, VALUE), ("delete", ID, ID, KEY), ("lock", ID, ID, KEY),
-    ("set", ID, MODE), ("savepoint", ID, NAME), ("rollback", ID, NAME), ("rollback", ID), ("commit", ID),
-    ("commit", ID, LATER), ("open", ID, NAME, ID, KEY, KEY), ("fetch", ID, NAME, COUNT), ("close", ID, NAME),
-    ("cancel", ID), ("marks",), ("flush",), ("checkpoint",),
+    ("insert", ID, ID, KEY, VALUE), ("update", ID, ID, KEY, VALUE), ("put", ID, ID, KEY, VALUE),
+    ("delete", ID, ID, KEY), ("lock", ID, ID, KEY), ("get", ID, ID, KEY), ("set", ID, MODE), ("savepoint", ID, NAME),
+    ("rollback", ID, NAME), ("rollback", ID), ("commit", ID), ("commit", ID, LATER), ("open", ID, NAME, ID, KEY, KEY),
+    ("fetch", ID, NAME, COUNT), ("close", ID, NAME), ("cancel", ID), ("sessions",), ("marks",), ("flush",),
+    ("checkpoint",),
 ]
-WRITES = ["insert", "update", "delete", "lock"]
+WRITES = ["insert", "update", "put", "delete", "lock"]
 FORMS = [(word, fields, re.compile(" ".join([word, *(pattern for pattern, _ in fields)]), re.ASCII))
          for word, *fields in COMMANDS]
 
@@ -441,6 +442,9 @@ class Model:
         if word == "marks":
             marks = [(at, book.writes, book.lost) for at, book in enumerate(self.books)]
             return [b"segment %d writes %d lost %d" % told for told in marks]
+        if word == "sessions":
+            told = map(self.under_way, self.sessions.values())
+            return [line.encode() for line in told if line]
         if word == "flush":
             return [self.flush().encode()]
         if word == "checkpoint":
@@ -473,9 +477,19 @@ class Model:
             return [self.write(session, said, word, *parts)]
         if word == "fetch":
             return self.fetch(session, said, *parts)
+        if word == "get":
+            return [self.get(session, said, *parts)]
         calls = {"commit": self.commit, "set": self.set_mode, "savepoint": self.savepoint, "rollback": self.rollback,
                  "open": self.open, "close": self.close, "cancel": self.cancel}
         return [calls[word](session, *parts)]
+
+    def under_way(self, session):
+        """What a session has under way, in words; None where that is nothing."""
+        waits = [f" waits {waiter.on}" if waiter.on else " ready" for waiter in self.queue
+                 if waiter.session == session.number]
+        counts = f"changes {len(session.changes)} cursors {len(session.cursors)}"
+        has_any = session.changes or session.savepoints or session.cursors or session.mode != READ_COMMITTED or waits
+        return f"session {session.number} {counts} mode {session.mode}{''.join(waits)}" if has_any else None
 
     # ---- The queue
 
@@ -539,9 +553,9 @@ class Model:
         if session.mode == SERIALIZABLE:
             self.serialize(session.snapshot[0], at, home, said(0))
         there = (session.own[at] if at in session.own else self.rows.get(at)) is not None
-        if there == (word == "insert"):
+        if word != "put" and there == (word == "insert"):
             raise Refused("duplicate" if there else "not found")
-        if word == "insert" and self.home_full(table, key):
+        if not there and self.home_full(table, key):
             raise Refused("block full")
         if sum(home in other.homes for other in others.values()) >= HOME_SESSIONS:
             raise Refused("slots full")
@@ -649,12 +663,23 @@ class Model:
             raise Refused("cursor there")
         if len(session.cursors) == NAMES:
             raise Refused("too many cursors")
+        session.cursors[name] = self.query(session, table, lo, hi)
+        return "ok"
+
+    def query(self, session, table, lo, hi):
+        """A cursor over a range as the session opens it now. It has no name yet."""
         number, seen = session.snapshot or (self.number, self.rows)
         seen = changed(seen, session.own)
         rows = [(key, value) for (t, key), value in seen.items() if t == table and lo <= key <= hi]
         rows.sort(key=lambda row: (row[0] % self.blocks, row[0]))
-        session.cursors[name] = Cursor(table, (lo, hi), number, rows, session)
-        return "ok"
+        return Cursor(table, (lo, hi), number, rows, session)
+
+    def get(self, session, said, table, key):
+        """What a cursor over one key would give first, if it were opened now; it gets no name."""
+        if not 1 <= table <= self.tables:
+            raise Refused("no table")
+        first, = self.rows_of(self.query(session, table, key, key), said, 1)
+        return "not found" if first == "end" else first
 
     def cursor(self, session, name):
         if name not in session.cursors:
@@ -662,7 +687,10 @@ class Model:
         return session.cursors[name]
 
     def fetch(self, session, said, name, count):
-        cursor = self.cursor(session, name)
+        return self.rows_of(self.cursor(session, name), said, count)
+
+    def rows_of(self, cursor, said, count):
+        """The next rows of a cursor, so many at most."""
         for place in range(count):
             for home in cursor.homes(self.blocks):
                 self.clean_for_reader(home)

@@ -29,9 +29,11 @@ class Wrong(Exception):
     """What the program did isn't what it is to do."""
 
 
-def find_program():
-    """The program that the first argument or RBSH names, else the repository's, which is built if it isn't there."""
-    named = sys.argv[1] if len(sys.argv) > 1 else os.environ.get("RBSH")
+def find_program(words=None):
+    """The program that the first of the words or RBSH names, else the repository's, which is built if it isn't there.
+    The words are those of the command line, where no others are given."""
+    words = sys.argv[1:] if words is None else words
+    named = words[0] if words else os.environ.get("RBSH")
     if named:
         return os.path.abspath(named)
     if not BUILT.is_file():

@@ -7,7 +7,7 @@ use Rattle.rb_base.specs.Blocks.{header_block, table_blocks}
 use Rattle.rb_base.specs.declared.ids.Uba.{Uba}
 use Rattle.rb_base.specs.declared.ids.Xid.{Xid}
 use Rattle.law_crash.specs.Made.{BackMade, CommitMade, EndMade, WriteMade}
-use Rattle.rb_model.specs.Calls.{Action, Owned, adds}
+use Rattle.rb_model.specs.Calls.{Action, Owned, adds_now}
 use Rattle.rb_model.specs.Change as model
 use Rattle.rb_model.specs.Change.{Kind}
 use Rattle.rb_model.specs.NextState.{change_in, kind_by, written}
@@ -123,4 +123,4 @@ module _ (h : State) (xids : List Xid) (before now : List (List ℕ)) (stand : B
       let there : x.seg < h.shape.segments = id.there in
       let low : x.slot < SLOTS = id.few in
       let home_in : made.undo.home < table_blocks h.shape = subst (λ (b : ℕ). b < table_blocks h.shape) (sym made.of_home) (row_block h.shape table key stand.tell.in_range.few_blocks.0 first few) in
-      recorded_ages (SLOTS * x.seg + x.slot) (omega (arith, there, low)) (adds action) (kind_by action) made.address made.undo home_in made.group
+      recorded_ages (SLOTS * x.seg + x.slot) (omega (arith, there, low)) (adds_now h s table key action) (kind_by action) made.address made.undo home_in made.group

@@ -14,7 +14,7 @@ use Rattle.rb_heap.specs.Cleaning.{cleaned_home}
 use Rattle.rb_heap.specs.Homes.{home_entry, home_of}
 use Rattle.rb_itl.specs.declared.slots.Entry.{Entry}
 use Rattle.rb_itl.specs.declared.slots.TheConstants.{BOUND, EXACT, OPEN}
-use Rattle.rb_model.specs.Calls.{Action, Done, WritesIn, adds, first_of, write_tests}
+use Rattle.rb_model.specs.Calls.{Action, Done, WritesIn, adds_now, first_of, write_tests}
 use Rattle.rb_model.specs.Change.{Change}
 use Rattle.rb_model.specs.NextState.{change_in, committed, ended, kind_by, without_owner, written}
 use Rattle.rb_model.specs.Rows.{last_scn}
@@ -82,7 +82,8 @@ pub record WriteMade (h : State) (xids : List Xid) (s table key : ℕ) (action :
   pub of_table : undo.table ≡ table
   pub of_key : undo.key ≡ key
   pub of_home : undo.home ≡ home_block h.shape table key
-  pub group : IsWritten h.shape (16 * x.seg + x.slot) (adds action) (kind_by action) address undo before now
+  pub group : IsWritten h.shape (16 * x.seg + x.slot) (adds_now h s table key action) (kind_by action) address undo
+      before now
 
 -- So many changes of slot t are put back, the newest first, each as its record keeps it.
 abbrev pub BackOver : Shape → (t : ℕ) → ℕ → (before now : List (List ℕ)) → Type 0

@@ -165,7 +165,7 @@ module _ (h : State) (xids : List Xid) (blocks : List (List ℕ)) (table_of : Li
           let slot : (t : ℕ) × (t < SLOTS * h.shape.segments) × Owns h s t = stand.tell.has_slot s c more low own in
           live slot.0 refl slot.2 (of_session.id.owns slot.0 slot.2) (sym (ap (λ (n : ℕ). take n (session_own h s)) of_session.count ∙ take_length (session_own h s)))
 
-  opened_is : IsCursor h xids env s in_memory new
+  pub opened_is : IsCursor h xids env s in_memory new
   opened_is =
       let parts = and_parts _ _ there in
       let snapshot : snapshot_at (last_scn h.commits) k.isolation ≡ snapshot_at (last_scn h.commits) (isolation_of h s) = ap (snapshot_at (last_scn h.commits)) of_session.isolation in

@@ -1,8 +1,8 @@
 -- What one call and one write that is tried again do over an engine, as the engine tells it.
-use Rattle.std.proofs.Common.{◌≡◌, ◌∙◌, ◌⊎◌, ⊎_elim, refl, sym, ap, subst, arith, ℕ, zero, suc, ◌+◌, ◌<◌, ◌≤◌, Bool, true, false, List, Result, Ok, Err, Option, None, Some}
+use Rattle.std.proofs.Common.{◌≡◌, ◌≢◌, ◌∙◌, ⊎_elim, IfErr, refl, sym, ap, subst, arith, ℕ, zero, suc, ◌+◌, ◌<◌, ◌≤◌, Bool, true, false, List, Result, Ok, Err, Option, None, Some}
 use Rattle.std.proofs.lemmas.Bool.{cases_Bool, false≢true}
 use Rattle.std.specs.Bool.{MatchBool}
-use Rattle.rb_base.specs.Counts.{IsCountedAs}
+use Rattle.rb_base.specs.Counts.{IsCountedAs, err_is}
 use Rattle.rb_base.specs.declared.store.Store.{Ghosts}
 use Rattle.rb_calls.specs.Made.{Made}
 use Rattle.rb_calls.specs.Resumes.{TriedAgain}
@@ -14,18 +14,18 @@ use Rattle.rb_engine.specs.Makes.{Makes, ResumeMakes}
 use Rattle.rb_engine.specs.Worn.{CallNeedsLost, IsWorn}
 use Rattle.law_crash.specs.Crash.{Survives}
 use Rattle.rb_lines.specs.Ran.{Did}
-use Rattle.rb_model.specs.Answers.{answer_of, fetch_answer, write_answer}
-use Rattle.rb_model.specs.Calls.{Answer, Call, Done, End, Flushed, Given, Marked, Committed, Numbered, Refused, MayAnswer, Waits, failed_in, is_fault}
-use Rattle.rb_model.specs.Calls.{Write, Commit, CommitLater, Flush, Rollback, SetMode, SetSavepoint, RollbackTo, OpenCursor, Fetch, CloseCursor, Cancel, Marks, Checkpoint}
+use Rattle.rb_model.specs.Answers.{activity_answer, fetch_answer, get_answer, write_answer}
+use Rattle.rb_model.specs.declared.activity.Activity.{Activity}
+use Rattle.rb_engine.proofs.MakesLemmas.{makes_refused}
+use Rattle.rb_model.specs.Calls.{Absent, Answer, Call, Done, End, Flushed, Given, Idle, Marked, Committed, Numbered, Refused, Shown, MayAnswer, Waits, failed_in, is_disk_fault, is_fault}
+use Rattle.rb_model.specs.Calls.{Write, Commit, CommitLater, Flush, Rollback, SetMode, SetSavepoint, RollbackTo, OpenCursor, Fetch, CloseCursor, Get, Cancel, Marks, Show, Checkpoint}
 use Rattle.rb_model.specs.Change.{Asked}
 use Rattle.rb_model.specs.NextState.{After, unqueued}
 use Rattle.rb_model.specs.Out.{Logged, CallOut, goes_on}
 use Rattle.rb_model.specs.Queue.{first_ready, left_by}
 use Rattle.rb_model.specs.State.{State, asked_of}
-use Rattle.rb_model.specs.declared.outcome.Outcome as code
-use Rattle.rb_model.specs.declared.outcome.Outcome.TheVariants as answers
 use Rattle.rb_model.specs.declared.refusal.Refusal.{Refusal}
-use Rattle.rb_model.specs.declared.refusal.Refusal.TheVariants.{TooOld}
+use Rattle.rb_model.specs.declared.refusal.Refusal.TheVariants.{DiskFault, TooOld}
 use Rattle.rb_model.specs.declared.row.Fetched.{Fetched}
 use Rattle.rb_model.specs.declared.row.Fetched.TheVariants as fetched
 use Rattle.rb_model.specs.declared.row.Row.{Row}
@@ -34,29 +34,11 @@ use Rattle.rb_model.specs.declared.wrote.Wrote.TheVariants as wrote
 use Rattle.rb_model.specs.Lines.{caller}
 use Rattle.rb_script.specs.Commands.{asked_by}
 use Rattle.rb_script.specs.declared.command.Request.{Request}
-use Rattle.rb_model.proofs.Stops.{after_stops, fine_stays}
+use Rattle.rb_model.proofs.Stops.{after_stops, fine_stays, other_refusal}
 
 -- what a session asks for is told to it
 pub caller_asked : (s : ℕ) (request : Request) → caller (asked_by s request) ≡ Some s
 caller_asked s request = grind arith
-
--- the code's answers after which a command goes on, whatever the row
-pub on_calls : (answer : code.Outcome) (row : Row) → (answer ≡ answers.Row) ⊎ ((seg : ℕ) × (writes : ℕ) × (lost : ℕ) × (answer ≡ answers.Marked seg writes lost)) → goes_on (answer_of answer row) ≡ true
-on_calls answer row is = ⊎_elim
-    (λ e. ap (λ (a : code.Outcome). goes_on (answer_of a row)) e)
-    (λ m. ap (λ (a : code.Outcome). goes_on (answer_of a row)) m.3)
-    is
-
-pub ends_calls : (answer : code.Outcome) (row : Row) → (answer ≡ answers.Row → ⊥) → ((seg writes lost : ℕ) → answer ≡ answers.Marked seg writes lost → ⊥) → goes_on (answer_of answer row) ≡ false
-ends_calls answers.Done row other marks = refl
-ends_calls (answers.Waits on) row other marks = refl
-ends_calls (answers.Committed number) row other marks = refl
-ends_calls (answers.Numbered number) row other marks = refl
-ends_calls (answers.Flushed number) row other marks = refl
-ends_calls answers.Row row other marks = absurd (other refl)
-ends_calls answers.End row other marks = refl
-ends_calls (answers.Marked seg writes lost) row other marks = absurd (marks seg writes lost refl)
-ends_calls (answers.Refused why) row other marks = refl
 
 pub on_no_fault : (r : Answer) → goes_on r ≡ true → is_fault r ≡ false
 on_no_fault Done e = refl
@@ -66,7 +48,10 @@ on_no_fault (Numbered n) e = refl
 on_no_fault (Flushed n) e = refl
 on_no_fault (Given key value) e = refl
 on_no_fault End e = refl
+on_no_fault Absent e = refl
 on_no_fault (Marked seg writes lost) e = refl
+on_no_fault (Shown s activity) e = refl
+on_no_fault Idle e = refl
 on_no_fault (Refused why) e = absurd (false≢true e)
 
 -- where it is too old, what it reads is worn
@@ -74,6 +59,8 @@ on_no_fault (Refused why) e = absurd (false≢true e)
 pub worn_by : {S : Type 0} (s : Ghosts S) (h : State) (e : EngineView S) (c : Call) (scn lost : ℕ) → CallNeedsLost s h e c scn lost → IsWorn h (s.blocks e.store) c scn lost
 worn_by s h e (Write who table key action) scn lost needs = needs
 worn_by s h e (Fetch who name) scn lost needs = (needs.0, needs.1)
+worn_by s h e (Get who table key) scn lost needs = needs
+worn_by s h e (Show who) scn lost needs = tt
 worn_by s h e (Commit who) scn lost needs = tt
 worn_by s h e (CommitLater who) scn lost needs = tt
 worn_by s h e (Rollback who) scn lost needs = tt
@@ -98,6 +85,23 @@ pub old_fetch : (outcome : Result Fetched Refusal) (row : Row) (scn lost : ℕ) 
 old_fetch (Ok fetched.Row) row scn lost is = cc
 old_fetch (Ok fetched.End) row scn lost is = cc
 old_fetch (Err why) row scn lost is = cc
+
+-- and of a read of one key
+pub old_get : (outcome : Result Fetched Refusal) (row : Row) (scn lost : ℕ) → get_answer outcome row ≡ Refused (TooOld scn lost) → outcome ≡ Err (TooOld scn lost)
+old_get (Ok fetched.Row) row scn lost is = cc
+old_get (Ok fetched.End) row scn lost is = cc
+old_get (Err why) row scn lost is = cc
+
+-- what a session has under way changes no block
+pub shows : (h : State) (who lsn : ℕ) (blocks : List (List ℕ)) (outcome : Result (Option Activity) Refusal) → Makes h (Show who) (activity_answer who outcome) lsn blocks blocks
+shows h who lsn blocks (Ok None) = refl
+shows h who lsn blocks (Ok (Some activity)) = refl
+shows h who lsn blocks (Err why) = makes_refused h (Show who) lsn blocks blocks refl why (λ scn lost is. refl)
+
+-- and tells of no fault
+pub shows_fine : (outcome : Result (Option Activity) Refusal) → IfErr outcome (λ why. why ≢ DiskFault) → err_is is_disk_fault outcome ≡ false
+shows_fine (Ok activity) other = refl
+shows_fine (Err why) other = other_refusal why other
 
 -- the answer of a write that is tried again
 pub tried_old : (w : ℕ) (outcome : Result Wrote Refusal) (scn lost : ℕ) → outcome ≡ Err (TooOld scn lost) → ◌≡◌ {A = Option (ℕ × Result Wrote Refusal)} (Some (w, outcome)) (Some (w, Err (TooOld scn lost)))

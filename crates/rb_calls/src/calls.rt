@@ -1,6 +1,6 @@
 //! The calls of a command on the engine. The shell makes those of a line, and the generator those of the commands that
 //! it draws.
-ghost use Rattle.std.specs.Prelude.{◌≡◌, ◌<◌, ℕ, None, Some};
+ghost use Rattle.std.specs.Prelude.{◌≡◌, ◌<◌, ℕ, suc, None, Some};
 ghost use Rattle.rb_calls.specs.Fits.{FitsCaller};
 ghost use Rattle.rb_calls.specs.Made.{Made};
 ghost use Rattle.rb_engine.specs.Ahead.{IsAhead};
@@ -11,13 +11,16 @@ ghost use Rattle.rb_model.specs.Names.{name_text};
 ghost use Rattle.rb_script.specs.Commands.{asked_by, command_of};
 
 use crate::answers::{
-    answer_to_call, answer_to_commit, answer_to_commit_later, answer_to_fetch, answer_to_flush,
-    answer_to_marks, answer_to_write,
+    answer_to_activity, answer_to_call, answer_to_commit, answer_to_commit_later, answer_to_fetch,
+    answer_to_flush, answer_to_get, answer_to_marks, answer_to_write,
 };
 use rb_base::{Shape, Store};
 use rb_engine::{Ahead, Engine};
 use rb_model::{Name, Outcome, Row};
 use rb_script::{Command, Request};
+
+/// How many sessions there are.
+const SESSIONS: u32 = 16;
 
 /// How many calls a command makes at most over a file of that shape.
 pub fn calls_of(command: &Command<'_>, shape: Shape) -> u32
@@ -29,6 +32,7 @@ pub fn calls_of(command: &Command<'_>, shape: Shape) -> u32
             request: Request::Fetch { name: _, n },
         } => *n,
         Command::Marks => u32::from(shape.segments),
+        Command::Sessions => SESSIONS,
         _ => 1,
     }
 }
@@ -42,6 +46,16 @@ fn answer_of_segment<T: Store>(engine: &mut Engine<T>, k: u32) -> Outcome
     prove!(k < u32::from(engine.shape().segments));
     let seg = k as u16;
     answer_to_marks(seg, engine.marks(seg))
+}
+
+/// Asks what the k-th session has under way, from 0 on.
+fn answer_of_session<T: Store>(engine: &Engine<T>, k: u32) -> Outcome
+    requires { k < SESSIONS }
+    ensures made { (row : Row) → Made T.Store (machine.Show (suc k)) (answer_of result row) engine.now engine.now }
+    ensures fits { FitsCaller None result }
+{
+    let s = k as u16 + 1;
+    answer_to_activity(s, engine.activity(s))
 }
 
 /// Makes the call that session `s` asks for. A row that it gives is in `row` then.
@@ -69,6 +83,7 @@ fn answer_to_request<T: Store>(
         }
         Request::Fetch { name, n: _ } => answer_to_fetch(engine.fetch(s, name, row)),
         Request::CloseCursor { name } => answer_to_call(engine.close_cursor(s, name)),
+        Request::Get { t, k } => answer_to_get(engine.get(s, *t, *k, row)),
         Request::Cancel => answer_to_call(engine.cancel(s)),
     }
 }
@@ -105,6 +120,7 @@ pub fn answer<T: Store>(
     match command {
         Command::Session { s, request } => answer_to_request(engine, *s, request, row),
         Command::Marks => answer_of_segment(engine, k),
+        Command::Sessions => answer_of_session(engine, k),
         Command::Flush => answer_to_flush(engine.flush()),
         Command::Checkpoint => answer_to_call(engine.checkpoint()),
     }

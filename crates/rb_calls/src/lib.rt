@@ -5,6 +5,6 @@ mod answers;
 mod calls;
 mod resumes;
 
-pub use answers::answer_to_write;
+pub use answers::{answer_to_write, goes_on};
 pub use calls::{answer, answer_ahead, calls_of};
 pub use resumes::{Listener, MOST_READY, resume_ready};

@@ -1,5 +1,5 @@
-//! A home that is kept, in the scratch and out of it, and which readers have no changes of their own in one. A build
-//! that may begin at a kept home calls it.
+//! Kept homes: one is taken into the scratch, where a build begins at it, or is made of what the scratch has; and
+//! whether a reader has changes of its own in a home, as it can't use a kept one then. `shared` calls it.
 ghost use Rattle.std.specs.Prelude.{◌≡◌, ◌≢◌, ◌⊎◌, [], ℕ, true, false, not};
 ghost use Rattle.std.specs.Prelude.{◌<◌, None, Some, IfNone, IfOk, IfSome, slice_index_or};
 ghost use Rattle.std.specs.Result.{is_err};

@@ -1,5 +1,5 @@
 //! The home of a block of a store as it was at a snapshot, begun at a kept home where one serves, and kept for later
-//! readers. A fetch will call it.
+//! readers. `next_at` builds by it what a fetch can't read in the block as it stands.
 ghost use Rattle.std.specs.Prelude.{[], ◌≡◌, ◌≢◌, ◌+◌, ◌<◌, ◌≤◌, ℕ, false, not};
 ghost use Rattle.std.specs.Prelude.{Some, IfErr, IfNone, IfOk, IfSome, IsSome, OnOk};
 ghost use Rattle.std.specs.Result.{is_err};
@@ -200,8 +200,8 @@ pub(crate) fn build_shared<S: Store, L: Ledger>(
 /// snapshot on, and takes back what stands between the two; where an entry of it is over the snapshot by a bound, or
 /// none serves, it begins at the block. What was built is kept, where there is memory for it. So no more records are
 /// taken back than `build` takes; as many, where no kept home serves; and none where one serves at the snapshot itself:
-/// that is never `TooOld`, whatever was given up since. (The consistent-read copies of a buffer cache, Bridge and
-/// others, VLDB 1997.)
+/// that is never `TooOld`, whatever was given up since. Tests call it alone: the program builds by `build_shared`, of
+/// which this is the whole. (The consistent-read copies of a buffer cache, Bridge and others, VLDB 1997.)
 pub fn build_with<S: Store, L: Ledger>(
     store: &mut S,
     block: BlockNo,

@@ -20,7 +20,7 @@ use Rattle.law_crash.proofs.CommitHeld.{holds_flushed}
 use Rattle.law_crash.proofs.Crashes.{extends_same, grow_same, some_later}
 use Rattle.law_crash.proofs.Steps.{keeps_on, none_each, read_has, survives_going}
 use Rattle.rb_model.specs.Book.{book_at}
-use Rattle.rb_model.specs.Calls.{Answer, Call, Fetch, Marked, Refused, MayAnswer, early_tests, failed_in, is_disk_fault, is_fault, none_applies}
+use Rattle.rb_model.specs.Calls.{Answer, Call, Fetch, Get, Marked, Refused, MayAnswer, early_tests, failed_in, is_disk_fault, is_fault, none_applies}
 use Rattle.rb_model.specs.NextState.{After, Grows, with_cursors}
 use Rattle.rb_model.specs.Rows.{last_scn}
 use Rattle.rb_model.specs.State.{Cursor, Session, State, all_safe, session_of, session_own}
@@ -253,6 +253,7 @@ ok_of (Err fault) fine so = (let clash : true ≡ false = fine in absurd cc)
 -- A refusal that gave no group gave the log as many as one may.
 pub refused_none : (h : State) (call : Call) (why : Refusal) → Grows h call (Refused why) 0
 refused_none h (Fetch s name) (TooOld scn lost) = omega arith
+refused_none h (Get s table key) (TooOld scn lost) = omega arith
 refused_none h _ (TooOld scn lost) = refl
 refused_none h call _ = refl
 

@@ -3,8 +3,8 @@
 use Rattle.std.proofs.Common.{◌*◌, ◌≡◌, ◌≤◌, ◌+◌, ◌^◌, ⊎_elim, ℕ, zero, suc, List, length, arith}
 use Rattle.rb_ring.specs.declared.extents.TheConstants.{EXTENTS, EXTENT_RECORDS}
 use Rattle.rb_base.specs.declared.ids.Xid.{Xid}
-use Rattle.rb_model.specs.Calls.{Answer, Call, Cancel, Checkpoint, CloseCursor, Commit, CommitLater, Done, End, Fetch, Flush}
-use Rattle.rb_model.specs.Calls.{Flushed, Given, HasNoSlot, Numbered}
+use Rattle.rb_model.specs.Calls.{Absent, Answer, Call, Cancel, Checkpoint, CloseCursor, Commit, CommitLater, Done, End, Fetch, Flush}
+use Rattle.rb_model.specs.Calls.{Flushed, Get, Given, HasNoSlot, Idle, Numbered, Show, Shown}
 use Rattle.rb_model.specs.Calls.{Marked, Marks, Committed, OpenCursor, Owned, Refused, Rollback, RollbackTo, SetMode, SetSavepoint, Waits, Write}
 use Rattle.rb_model.specs.NextState.{CommitGrows, Ends, Grows, GrowsBy, ReadsBy, RefusedBy}
 use Rattle.rb_model.specs.State.{State, session_own}
@@ -41,6 +41,8 @@ module _ (h : State) (xids : List Xid) (blocks : List (List ℕ)) (stand : Block
   granted_few (OpenCursor s name table lo hi) n is = omega (arith, is)
   granted_few (Fetch s name) n is = omega (arith, is)
   granted_few (CloseCursor s name) n is = omega (arith, is)
+  granted_few (Get s table key) n is = omega (arith, is)
+  granted_few (Show s) n is = omega (arith, is)
   granted_few (Cancel s) n is = omega (arith, is)
   granted_few (Marks seg) n is = omega (arith, is)
   granted_few Flush n is = omega (arith, is)
@@ -48,6 +50,8 @@ module _ (h : State) (xids : List Xid) (blocks : List (List ℕ)) (stand : Block
 
   read_few : (call : Call) (n : ℕ) → ReadsBy h call n → n ≤ 2 ^ 14
   read_few (Fetch s name) n le = let few = stand.tell.in_range.few_blocks.1 in omega (arith, le, few)
+  read_few (Get s table key) n le = omega (arith, le)
+  read_few (Show s) n is = omega (arith, is)
   read_few (Write s table key action) n is = omega (arith, is)
   read_few (Commit s) n is = omega (arith, is)
   read_few (CommitLater s) n is = omega (arith, is)
@@ -95,5 +99,8 @@ module _ (h : State) (xids : List Xid) (blocks : List (List ℕ)) (stand : Block
   grows_few call (Waits on) n is = omega (arith, is)
   grows_few call (Given key value) n reads = read_few call n reads
   grows_few call End n reads = read_few call n reads
+  grows_few call Absent n reads = read_few call n reads
   grows_few call (Marked seg writes lost) n is = omega (arith, is)
+  grows_few call (Shown s activity) n is = omega (arith, is)
+  grows_few call Idle n is = omega (arith, is)
   grows_few call (Refused w) n refused = refused_few call w n refused

@@ -1,3 +1,4 @@
+pub mod ActivityLemmas
 pub mod AheadLemmas
 pub mod CleanLemmas
 pub mod CopyLemmas
@@ -5,6 +6,7 @@ pub mod DoesLemmas
 pub mod FetchLemmas
 pub mod FewLemmas
 pub mod FinishLemmas
+pub mod GetLemmas
 pub mod LateLemmas
 pub mod MakesLemmas
 pub mod ModeLemmas

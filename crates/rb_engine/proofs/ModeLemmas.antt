@@ -4,7 +4,7 @@ use Rattle.std.proofs.lemmas.Bool.Decides.{nat_tests}
 use Rattle.rb_engine.specs.Checks.{is_idle}
 use Rattle.rb_engine.specs.Does.{EngineView, KnowsModes, Stands}
 use Rattle.rb_base.specs.declared.store.Store.{Ghosts}
-use Rattle.rb_model.specs.Calls.{is_empty, is_none_set, is_unbegun}
+use Rattle.rb_model.specs.Calls.{is_empty, is_unbegun}
 use Rattle.rb_model.specs.Change.{Change}
 use Rattle.rb_model.specs.State as machine
 use Rattle.rb_model.specs.State.{Savepoint, State}
@@ -14,7 +14,7 @@ no_change : (own : List Change) → (length own == 0) ≡ is_empty own
 no_change [] = refl
 no_change (c ∷ own) = let test : (length (c ∷ own) == 0) ≡ false = grind (arith, nat_tests) in test
 
-no_savepoint : (savepoints : List Savepoint) → (length savepoints == 0) ≡ is_none_set savepoints
+no_savepoint : (savepoints : List Savepoint) → (length savepoints == 0) ≡ is_empty savepoints
 no_savepoint [] = refl
 no_savepoint (p ∷ savepoints) = let test : (length (p ∷ savepoints) == 0) ≡ false = grind (arith, nat_tests) in test
 

@@ -6,11 +6,12 @@ use Rattle.rb_base.specs.declared.ids.Uba.{Uba}
 use Rattle.rb_base.specs.declared.ids.Xid.{Xid}
 use Rattle.rb_base.specs.declared.sizes.TheConstants.{WORN}
 use Rattle.rb_engine.specs.Cleaning.{IsClean, OnlyCleaned, ReadIn}
+use Rattle.rb_engine.specs.Getting.{KeyRead}
 use Rattle.law_crash.specs.Made.{BackOver}
 use Rattle.rb_model.specs.Answers.{write_answer}
-use Rattle.rb_model.specs.Calls.{Action, Answer, Call, Commit, CommitLater, Committed, Done, End, Fetch, Flushed}
-use Rattle.rb_model.specs.Calls.{Given, HasNoSlot, Marked, Numbered, Owned, Refused, Rollback, RollbackTo, Waits}
-use Rattle.rb_model.specs.Calls.{Write, WritesIn, adds, is_empty}
+use Rattle.rb_model.specs.Calls.{Absent, Action, Answer, Call, Commit, CommitLater, Committed, Done, End, Fetch}
+use Rattle.rb_model.specs.Calls.{Flushed, Get, Given, HasNoSlot, Idle, Marked, Numbered, Owned, Refused, Rollback}
+use Rattle.rb_model.specs.Calls.{RollbackTo, Shown, Waits, Write, WritesIn, adds_now, is_empty}
 use Rattle.rb_model.specs.Change.{Asked}
 use Rattle.rb_model.specs.NextState.{kind_by, unqueued}
 use Rattle.rb_model.specs.Rows.{last_scn}
@@ -34,14 +35,14 @@ EndOver h s n before now =
     × BackOver h.shape (16 * g + i) n before middle × IsEnded h.shape (16 * g + i) middle now)
     ⊎ (HasNoSlot h s × (now ≡ before))
 
--- a write in slot i of segment g, with the record of its change
-pub record WritesOne (h : State) (g i table key : ℕ) (action : Action) (before now : List (List ℕ)) : Type 0 where
+-- a write of session s in slot i of segment g, with the record of its change
+pub record WritesOne (h : State) (s g i table key : ℕ) (action : Action) (before now : List (List ℕ)) : Type 0 where
   pub address : Uba
   pub undo : UndoRecord
   pub of_table : undo.table ≡ table
   pub of_key : undo.key ≡ key
   pub of_home : undo.home ≡ home_block h.shape table key
-  pub group : IsWritten h.shape (16 * g + i) (adds action) (kind_by action) address undo before now
+  pub group : IsWritten h.shape (16 * g + i) (adds_now h s table key action) (kind_by action) address undo before now
 
 -- a commit: its number in a header where the session has changes, and else the end of its transaction
 abbrev pub CommitMakes : State → ℕ → (before now : List (List ℕ)) → Type 0
@@ -50,11 +51,11 @@ CommitMakes h s before now =
     × IsCommitted h.shape (16 * g + i) (last_scn h.commits + 1) before now))
     ⊎ ((is_empty (session_own h s) ≡ true) × EndOver h s 0 before now)
 
--- What a call makes that did what it was asked for, but for a fetch: a write its change, a commit its number in a
--- header, a rollback its changes back. No other call changes a block.
+-- What a call makes that did what it was asked for, but for one that reads rows: a write its change, a commit its
+-- number in a header, a rollback its changes back. No other call changes a block.
 abbrev pub MadeBy : State → Call → (before now : List (List ℕ)) → Type 0
 MadeBy h (Write s table key action) before now =
-    (g : ℕ) × (i : ℕ) × WritesIn h s g i × WritesOne h g i table key action before now
+    (g : ℕ) × (i : ℕ) × WritesIn h s g i × WritesOne h s g i table key action before now
 MadeBy h (Commit s) before now = CommitMakes h s before now
 MadeBy h (CommitLater s) before now = CommitMakes h s before now
 MadeBy h (Rollback s) before now = EndOver h s (length (session_own h s)) before now
@@ -78,9 +79,10 @@ pub record ReadBy (h : State) (who : ℕ) (name : List ℕ) (well : Type 0) (lsn
 
 abbrev pub MadeReading : State → Call → Type 0 → ℕ → (before now : List (List ℕ)) → Type 0
 MadeReading h (Fetch who name) well lsn before now = ReadBy h who name well lsn before now
+MadeReading h (Get who table key) well lsn before now = KeyRead h table key well lsn before now
 MadeReading h call well lsn before now = now ≡ before
 
--- a refused call changes no block, but a fetch that is too old may have cleaned some
+-- a refused call changes no block, but one that reads rows and is too old may have cleaned some
 abbrev pub MadeRefused : State → Call → Refusal → ℕ → (before now : List (List ℕ)) → Type 0
 MadeRefused h call (TooOld scn lost) lsn before now = MadeReading h call ⊥ lsn before now
 MadeRefused h call why lsn before now = now ≡ before
@@ -95,7 +97,10 @@ Makes h call (Flushed n) lsn before now = MadeBy h call before now
 Makes h call (Waits on) lsn before now = now ≡ before
 Makes h call (Given key value) lsn before now = MadeReading h call (Unit {0}) lsn before now
 Makes h call End lsn before now = MadeReading h call (Unit {0}) lsn before now
+Makes h call Absent lsn before now = MadeReading h call (Unit {0}) lsn before now
 Makes h call (Marked seg writes lost) lsn before now = now ≡ before
+Makes h call (Shown s activity) lsn before now = now ≡ before
+Makes h call Idle lsn before now = now ≡ before
 Makes h call (Refused why) lsn before now = MadeRefused h call why lsn before now
 
 -- A resumed write makes what the write makes that its session waited with, as if the session had never been in the

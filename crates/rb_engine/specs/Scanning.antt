@@ -1,12 +1,13 @@
 -- What a search for a cursor's next row finds, home by home.
-use Rattle.std.specs.Prelude.{◌≡◌, ◌≢◌, ◌<◌, ◌≤◌, ◌%◌, ℕ, List}
+use Rattle.std.specs.Prelude.{◌≡◌, ◌≢◌, ◌<◌, ◌≤◌, ◌%◌, ℕ, true, List}
 use Rattle.std.specs.Prelude.{Option, None, Some, Result, Ok, Err}
 use Rattle.rb_base.specs.declared.ids.Xid.{Xid}
 use Rattle.rb_base.specs.declared.store.Store.{Ghosts}
 use Rattle.rb_cr.specs.Faults.{Because}
 use Rattle.rb_cr.specs.declared.faults.CrFault.{CrFault}
-use Rattle.rb_engine.specs.Does.{EngineView}
+use Rattle.rb_engine.specs.Does.{EngineView, Kept}
 use Rattle.rb_cr.specs.declared.faults.CrFault.TheVariants as faults
+use Rattle.rb_model.specs.Isolation.{snapshot_at}
 use Rattle.rb_model.specs.State as machine
 use Rattle.rb_model.specs.State.{State}
 use Rattle.rb_model.specs.Tests.{holder}
@@ -22,6 +23,19 @@ use Rattle.rb_steps.specs.Steps.{NotOthers}
 use Rattle.law_sessions.specs.Laws.{rows_seen}
 use Rattle.law_sessions.specs.Scan.{IsNextIn, NoneIn}
 use Rattle.law_sessions.specs.Views.{IsCursor, history, home_in}
+
+-- a cursor as a session opens it now, by what the engine has in memory
+abbrev pub opened_now : Kept → (s table lo hi : ℕ) → Cursor
+opened_now kept s table lo hi = record {
+  table = table;
+  lo = lo;
+  hi = hi;
+  scn = snapshot_at kept.scn (kept_at kept.sessions s).isolation;
+  own = (kept_at kept.sessions s).own;
+  upto = (kept_at kept.sessions s).count;
+  last = None;
+  present = true;
+}
 
 -- Blocks stand for a state of which this is a cursor.
 pub record IsReader (h : State) (xids : List Xid) (blocks : List (List ℕ)) (m : Cursor) : Type 0 where

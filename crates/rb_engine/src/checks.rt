@@ -22,7 +22,7 @@ fn value_length(op: Option<Op<'_>>) -> usize
     ensures short { result ≤ VALUE_BYTES → is_too_long (action_by op.entry) ≡ false }
 {
     match op {
-        Some(Op::Insert(value) | Op::Update(value)) => value.len(),
+        Some(Op::Insert(value) | Op::Update(value) | Op::Put(value)) => value.len(),
         Some(Op::Delete) | None => 0,
     }
 }
@@ -76,6 +76,7 @@ pub fn check_table(memory: &Memory, shape: Shape, s: u16, table: u16) -> Result<
     ensures granted { OnOk result ((h : State) (name : List ℕ) (lo hi : ℕ) → Knows h memory.now
         → shape ≡ h.shape → none_applies (early_tests h (machine.OpenCursor s name table lo hi)) ≡ true) }
     ensures other { IfErr result (λ why. why ≢ Refusal.DiskFault) }
+    ensures young { IfErr result NotOld }
     ensures session { OnOk result ((1 ≤ s) × (s ≤ SESSIONS)) }
     ensures table { OnOk result ((1 ≤ table) × (table ≤ shape.tables)) }
     ensures going { OnOk result (memory.now.stopped ≡ false) }

@@ -1,6 +1,8 @@
 //! Cursors opened and closed: calls of memory alone. `Engine::open_cursor` and `Engine::close_cursor` call it.
-ghost use Rattle.std.specs.Prelude.{◌≡◌, ◌≢◌, ℕ, IfErr, false};
+ghost use Rattle.std.specs.Prelude.{◌≡◌, ◌≢◌, ◌≤◌, ℕ, IfErr, false};
+ghost use Rattle.rb_sessions.specs.declared.sessions.TheConstants.{SESSIONS};
 ghost use Rattle.rb_engine.specs.Does.{Does, IsInStep, Stands, SameStore};
+ghost use Rattle.rb_engine.specs.Scanning.{opened_now};
 ghost use Rattle.rb_model.specs.Answers.{plain_answer};
 ghost use Rattle.rb_model.specs.Calls as machine;
 ghost use Rattle.rb_model.specs.Names.{name_text};
@@ -18,6 +20,25 @@ use rb_sessions::{Cursor, snapshot_at};
 
 /// The most cursors of a session that are open.
 const CURSORS: u8 = 16;
+
+/// A cursor over a range of keys of a table, as session `s` opens it now: at the last commit number, or at that which
+/// its transaction has for all its queries, with the changes that this has now.
+pub fn cursor_over(memory: &Memory, s: u16, table: u16, lo: u64, hi: u64) -> Cursor
+    requires { (1 ≤ s) × (s ≤ SESSIONS) }
+    ensures { result ≡ opened_now memory.now s table lo hi }
+{
+    let session = memory.sessions.session(s);
+    Cursor {
+        table,
+        lo,
+        hi,
+        scn: snapshot_at(session.isolation, memory.scn),
+        own: session.own,
+        upto: session.length,
+        last: None,
+        present: true,
+    }
+}
 
 /// Opens a cursor over the rows as the session sees them now: it notes the last commit number, or that which the
 /// session's transaction has for all its queries, and how many changes this has.
@@ -41,20 +62,10 @@ pub fn do_open_cursor<T: Store>(
     if memory.sessions.cursor(s, name).is_some() {
         return Err(Refusal::CursorThere);
     }
-    let session = memory.sessions.session(s);
-    if session.cursors >= CURSORS {
+    if memory.sessions.session(s).cursors >= CURSORS {
         return Err(Refusal::TooManyCursors);
     }
-    let cursor = Cursor {
-        table,
-        lo,
-        hi,
-        scn: snapshot_at(session.isolation, memory.scn),
-        own: session.own,
-        upto: session.length,
-        last: None,
-        present: true,
-    };
+    let cursor = cursor_over(memory, s, table, lo, hi);
     memory.sessions.open_cursor(s, name, cursor);
     Ok(())
 }

@@ -17,7 +17,7 @@ use rb_model::{Isolation, Mode, Refusal};
 use rb_sessions::{Session, isolation_at};
 
 /// Whether a session's transaction has neither a mode of its own nor changes nor savepoints.
-fn is_unbegun(session: Session) -> bool
+pub fn is_unbegun(session: Session) -> bool
     ensures { result ≡ is_idle session }
 {
     matches!(session.isolation, Isolation::ReadCommitted)

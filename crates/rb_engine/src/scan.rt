@@ -1,5 +1,5 @@
 //! A cursor's next row, by the homes of its table in scan order, each cleaned and rebuilt as it was at the cursor's
-//! snapshot. `fetch` calls it.
+//! snapshot. `fetch` calls it, and `get` for a home alone.
 ghost use Rattle.std.specs.Prelude.{◌≡◌, ◌⊎◌, ◌<◌, ◌≤◌, ◌%◌, ◌*◌, ℕ, List, length};
 ghost use Rattle.std.specs.Prelude.{true, false, not};
 ghost use Rattle.std.specs.Prelude.{None, Some, Ok, IfOk, IfErr, IfSome, if◌then◌else◌, ◌==◌, is_some};
@@ -43,6 +43,15 @@ fn is_in_one_round(cursor: &Cursor, blocks: u32) -> bool
     cursor.lo / blocks == cursor.hi / blocks
 }
 
+/// The home of a key, of so many.
+pub fn home_of(key: u64, blocks: u32) -> u32
+    requires { 0 < blocks }
+    ensures home { result ≡ key % blocks }
+    ensures within { result < blocks }
+{
+    (key % u64::from(blocks)) as u32
+}
+
 /// The first home that may have a row behind the last one: that of its key. At first it is that of the range's least
 /// key, or the first of all where the range goes round.
 fn first_home(cursor: &Cursor, blocks: u32) -> u32
@@ -57,7 +66,7 @@ fn first_home(cursor: &Cursor, blocks: u32) -> u32
         None if is_in_one_round(cursor, blocks) => cursor.lo,
         None => 0,
     };
-    (key % u64::from(blocks)) as u32
+    home_of(key, blocks)
 }
 
 /// The home from which on none has a key of the range.
@@ -70,7 +79,7 @@ fn end_home(cursor: &Cursor, blocks: u32) -> u32
     if !is_in_one_round(cursor, blocks) {
         return blocks;
     }
-    (cursor.hi % u64::from(blocks)) as u32 + 1
+    home_of(cursor.hi, blocks) + 1
 }
 
 /// The least key behind which home `g` of so many is asked: the last one in its own home, and none in a later one.
@@ -108,7 +117,7 @@ fn is_asked(cursor: &Cursor, blocks: u32, g: u32) -> bool
 /// the log is worn out, so that what is known of its transactions now is still known when their undo is gone; then it
 /// is rebuilt with the help of the homes that are kept. Of a block that tells, and of a kept home, the rows behind are
 /// known ahead then, where many are asked for.
-fn next_in<S: Store>(
+pub fn next_in<S: Store>(
     store: &mut S,
     workspace: &mut Workspace,
     scratch: &mut Scratch,

@@ -1,7 +1,8 @@
 -- What a file disk is seen as.
-use Rattle.std.specs.Prelude.{ℕ, List, Option}
+use Rattle.std.specs.Prelude.{◌≡◌, ℕ, List, Option}
 use Rattle.rb_rawfile.specs.declared.cause.Cause.{Cause}
 use Rattle.rb_filedisk.specs.declared.synced.SyncedFile.{SyncedFile}
+use Rattle.rb_filedisk.specs.declared.system.Found.TheVariants.{Missing}
 use Rattle.rb_filedisk.specs.declared.system.SystemFile.{SystemFile}
 use Rattle.rb_filedisk.specs.declared.unsynced.Unsynced.{Unsynced}
 
@@ -30,3 +31,7 @@ unsynced_of disk = disk.file.unsynced
 -- the bytes of a file's path
 abbrev pub path_of : {R F D : Type 0} → SystemFile R F D → List ℕ
 path_of file = file.path.now
+
+-- a file was looked for and wasn't there, and no write made it since
+abbrev pub IsMissing : {R F D : Type 0} → SystemFile R F D → Type 0
+IsMissing file = file.found ≡ Missing

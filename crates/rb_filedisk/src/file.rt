@@ -1,11 +1,12 @@
 //! `FileDisk`: a raw file as a disk. The program's `main` makes it over the file of a path.
 ghost use Rattle.std.specs.Prelude.{◌≡◌, ◌↔◌, ◌+◌, ◌-◌, ◌^◌, ◌≤◌, ℕ, min, max, []};
-ghost use Rattle.std.specs.Prelude.{length, IsOk, IfOk, OnOk, OnErr, IfErr, None, Some, IsSome};
+ghost use Rattle.std.specs.Prelude.{length, IsOk, IfOk, OnOk, OnErr, IfErr, None, Some, IsNone, IsSome, IfSome};
 ghost use Rattle.rb_base.specs.Counts.{IsCounted};
 ghost use Rattle.rb_base.specs.Fields.{part, overwritten};
 ghost use Rattle.rb_base.specs.Moments.{NoMore, Passes};
 ghost use Rattle.rb_disk.specs.DiskModel.{Torn, Follows, Only};
-ghost use Rattle.rb_filedisk.specs.FileDisk.{FileState, cause_of, faults_of, file_of, path_of, unsynced_of};
+ghost use Rattle.rb_filedisk.specs.FileDisk.{FileState, IsMissing, cause_of, faults_of, file_of};
+ghost use Rattle.rb_filedisk.specs.FileDisk.{path_of, unsynced_of};
 ghost use Rattle.rb_filedisk.specs.Faults.{FailedOnce};
 ghost use Rattle.rb_filedisk.specs.Keeps.{HasNone};
 ghost use Rattle.rb_filedisk.specs.Unsynced.{IsNothing, IsWhole, IsWith, RemembersAll, RemembersNoOther};
@@ -44,7 +45,8 @@ impl<'a, R: Files> FileDisk<SystemFile<'a, R>>
 where
     R::File: FileExt + Hold,
 {
-    /// The file of this path, which its first call opens, and makes if it isn't there. No second run may have it.
+    /// The file of this path, which its first call looks for and opens. No second run may have it. One that isn't there
+    /// counts as an empty one, until its first write makes it.
     pub fn at(runtime: &'a R, path: &'a str) -> Self
         ensures path { path_of (file_of result) ≡ path.now }
         ensures faults { faults_of result ≡ 0 }
@@ -52,6 +54,15 @@ where
         ensures unsynced { IsWhole (unsynced_of result) }
     {
         FileDisk::over(SystemFile::at(runtime, path))
+    }
+
+    /// Why the last call that failed did so. Where none has, that there is no file, if that is known.
+    pub fn into_cause(self) -> Option<Cause>
+        ensures failed { IsSome (cause_of self.entry) → result ≡ cause_of self.entry }
+        ensures missing { IsNone (cause_of self.entry) → (IsSome result ↔ IsMissing (file_of self.entry)) }
+        ensures told { IsNone (cause_of self.entry) → IfSome result (λ cause. cause ≡ Cause.Missing) }
+    {
+        self.cause.or(self.into_file().absence())
     }
 }
 
@@ -77,13 +88,6 @@ impl<F: RawFile> FileDisk<F> {
         ensures { result ≡ file_of self }
     {
         self.file.into_file()
-    }
-
-    /// Why the last call that failed did so; None where none has.
-    pub fn cause(&self) -> Option<Cause>
-        ensures { result ≡ cause_of self.now }
-    {
-        self.cause
     }
 
     // Counts a fault where the answer is one, and keeps its cause.

@@ -2,7 +2,7 @@
 use Rattle.std.specs.Prelude.{◌≡◌, ℕ, ◌+◌, ◌≤◌, Bool, true, false, List, [], ◌∷◌}
 use Rattle.std.specs.List.{count_by}
 use Rattle.rb_generator.specs.declared.counts.Counts.{Counts}
-use Rattle.rb_model.specs.Calls.{Answer, Done, Waits, Committed, Numbered, Flushed, Given, End}
+use Rattle.rb_model.specs.Calls.{Answer, Waits, Committed, Numbered, Given, Refused}
 
 abbrev pub is_committed : Answer → Bool
 is_committed (Committed number) = true
@@ -17,16 +17,9 @@ abbrev pub is_wait : Answer → Bool
 is_wait (Waits on) = true
 is_wait _ = false
 
--- an answer of no other kind
 abbrev pub is_refused : Answer → Bool
-is_refused Done = false
-is_refused (Committed number) = false
-is_refused (Numbered number) = false
-is_refused (Flushed number) = false
-is_refused (Given key value) = false
-is_refused End = false
-is_refused (Waits on) = false
-is_refused _ = true
+is_refused (Refused why) = true
+is_refused _ = false
 
 abbrev pub counts_of : List Answer → Counts
 counts_of answers = record {

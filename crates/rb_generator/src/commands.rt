@@ -16,12 +16,12 @@ ghost use Rattle.rb_script.specs.Commands.{command_of};
 use crate::counts::Counts;
 use arrayvec::ArrayVec;
 use rb_base::{Failed, Store};
-use rb_calls::{MOST_READY, answer, calls_of, resume_ready};
+use rb_calls::{MOST_READY, answer, calls_of, goes_on, resume_ready};
 use rb_engine::Engine;
-use rb_model::{Outcome, Row};
+use rb_model::Row;
 use rb_script::Command;
 
-/// Makes a command's calls. They end at the first answer that is neither a row nor the marks of a segment.
+/// Makes a command's calls, up to the first answer after which it doesn't go on.
 fn make_calls<T: Store>(
     engine: &mut Engine<T>,
     command: &Command<'_>,
@@ -44,9 +44,8 @@ fn make_calls<T: Store>(
     for k in 0..calls_of(command, engine.shape()) {
         let answer = answer(engine, command, k, &mut row);
         counts.note(answer)?;
-        match answer {
-            Outcome::Row | Outcome::Marked { .. } => {}
-            _ => return Ok(()),
+        if !goes_on(answer) {
+            return Ok(());
         }
     }
     Ok(())

@@ -9,7 +9,7 @@ use rb_base::Failed;
 use rb_calls::{Listener, answer_to_write};
 use rb_model::{Outcome, Refusal, Row, Wrote};
 
-/// How many answers of each kind there were. Those that say `ok`, `end` or `flushed` are in none of them.
+/// How many answers of each kind there were. All others, as `ok`, `end` and `flushed`, are in none of them.
 #[derive(Clone, Copy, Debug, PartialEq, Eq)]
 pub struct Counts {
     /// Commits that took a number.
@@ -18,7 +18,7 @@ pub struct Counts {
     pub rows: u64,
     /// Writes that had to wait.
     pub waits: u64,
-    /// All other answers: those of calls that were refused.
+    /// Calls that were refused.
     pub refused: u64,
 }
 
@@ -42,11 +42,11 @@ impl Counts {
         ensures few { told self.new ≤ told self.old + 1 }
     {
         match answer {
-            Outcome::Done | Outcome::End | Outcome::Flushed { number: _ } => {}
             Outcome::Committed { .. } | Outcome::Numbered { .. } => self.committed += 1,
             Outcome::Row => self.rows += 1,
             Outcome::Waits { on: _ } => self.waits += 1,
-            Outcome::Marked { .. } | Outcome::Refused { why: _ } => self.refused += 1,
+            Outcome::Refused { why: _ } => self.refused += 1,
+            _ => {}
         }
     }
 

@@ -3,14 +3,14 @@ use Rattle.std.proofs.Common.{◌≡◌, ◌⊎◌, ◌≤◌, ◌<◌, ◌∙�
 use Rattle.std.specs.Bool.{MatchBool}
 use Rattle.std.specs.Prelude.{◌&&◌, if◌then◌else◌, nat_le, not, slice_get}
 use Rattle.std.proofs.lemmas.Bool.{cond_both}
-use Rattle.rb_model.specs.Calls.{Call, Write, Commit, CommitLater, Flush, Rollback, SetMode, SetSavepoint, RollbackTo, OpenCursor, Fetch, CloseCursor, Cancel, Marks, Checkpoint}
-use Rattle.rb_model.specs.Calls.{Answer, Done, Waits, Committed, Numbered, Flushed, Given, End, Marked, Refused, MayAnswer, LaterTests, early, later, fault, old}
-use Rattle.rb_model.specs.Calls.{adds, rows_now, early_tests, first_of, given, granted, is_disk_fault, is_fault, is_empty, next_row, refused_by, serial_tests, waited, write_tests}
+use Rattle.rb_model.specs.Calls.{Call, Write, Commit, CommitLater, Flush, Rollback, SetMode, SetSavepoint, RollbackTo, OpenCursor, Fetch, CloseCursor, Get, Cancel, Marks, Show, Checkpoint}
+use Rattle.rb_model.specs.Calls.{Answer, Done, Waits, Committed, Numbered, Flushed, Given, End, Absent, Marked, Shown, Idle, Refused, MayAnswer, LaterTests, early, later, fault, old}
+use Rattle.rb_model.specs.Calls.{adds_now, activity_of, got, is_idle, rows_now, rows_seen, early_tests, first_of, given, granted, is_disk_fault, is_fault, is_empty, next_row, refused_by, serial_tests, waited, write_tests}
 use Rattle.rb_model.specs.NextState.{After, AfterGrant, AfterWait, EndsAs, committed, unqueued}
 use Rattle.rb_model.specs.Out.{CallsOut, LineSaid, Logged, Out, Outside, ResumesOut, bad, command, goes_on, skipped, too_long}
 use Rattle.rb_model.specs.Lines.{Command, call_of}
 use Rattle.rb_model.specs.Queue.{Waiter}
-use Rattle.rb_model.specs.Rows.{Commits, TableRow, has_row, last_scn}
+use Rattle.rb_model.specs.Rows.{Commits, TableRow, has_row, last_scn, value_of}
 use Rattle.rb_model.specs.Safe.{SafeIsMade}
 use Rattle.rb_model.specs.State.{Cursor, State, all_safe, cursor_of, cursor_rows, isolation_of, session_own}
 use Rattle.rb_model.specs.Tests.{full_slots, holder, made_since}
@@ -74,8 +74,10 @@ grant_kept h h2 (RollbackTo s name) (p, named, e) = rests h h2 _ e refl refl
 grant_kept h h2 (OpenCursor s name table lo hi) e = rests h h2 _ e refl refl
 grant_kept h h2 (Fetch s name) e = rests h h2 _ e refl refl
 grant_kept h h2 (CloseCursor s name) e = rests h h2 _ e refl refl
+grant_kept h h2 (Get s table key) e = rests h h2 h e refl refl
 grant_kept h h2 (Cancel s) e = rests h h2 _ e refl refl
 grant_kept h h2 (Marks seg) e = rests h h2 h e refl refl
+grant_kept h h2 (Show s) e = rests h h2 h e refl refl
 grant_kept h h2 Flush e = all_kept h h2 e
 grant_kept h h2 Checkpoint e = all_kept h h2 e
 
@@ -91,7 +93,9 @@ wait_kept h h2 (OpenCursor s name table lo hi) on e = rests h h2 h e refl refl
 wait_kept h h2 (Fetch s name) on e = rests h h2 h e refl refl
 wait_kept h h2 (CloseCursor s name) on e = rests h h2 h e refl refl
 wait_kept h h2 (Cancel s) on e = rests h h2 h e refl refl
+wait_kept h h2 (Get s table key) on e = rests h h2 h e refl refl
 wait_kept h h2 (Marks seg) on e = rests h h2 h e refl refl
+wait_kept h h2 (Show s) on e = rests h h2 h e refl refl
 wait_kept h h2 Flush on e = rests h h2 h e refl refl
 wait_kept h h2 Checkpoint on e = rests h h2 h e refl refl
 
@@ -103,7 +107,10 @@ after_kept h h2 c (Numbered n) after = grant_kept h h2 c after
 after_kept h h2 c (Flushed n) after = grant_kept h h2 c after
 after_kept h h2 c (Given key value) after = grant_kept h h2 c after
 after_kept h h2 c End e = rests h h2 h e refl refl
+after_kept h h2 c Absent e = rests h h2 h e refl refl
 after_kept h h2 c (Marked seg writes lost) e = rests h h2 h e refl refl
+after_kept h h2 c (Shown s activity) e = rests h h2 h e refl refl
+after_kept h h2 c Idle e = rests h h2 h e refl refl
 after_kept h h2 c (Refused why) e =
     rests h h2 _ e
     (cond_both (is_disk_fault why) (record h { stopped = true }) h (λ (x : State). x.safe ≡ h.safe) (λ yes. refl) (λ no. refl))
@@ -189,8 +196,10 @@ quiet_early h (RollbackTo s name) = (refl, (refl, (refl, tt)))
 quiet_early h (OpenCursor s name table lo hi) = (refl, (refl, (refl, (refl, tt))))
 quiet_early h (Fetch s name) = (refl, (refl, (refl, tt)))
 quiet_early h (CloseCursor s name) = (refl, (refl, (refl, tt)))
+quiet_early h (Get s table key) = (refl, (refl, (refl, (refl, tt))))
 quiet_early h (Cancel s) = (refl, (refl, tt))
 quiet_early h (Marks seg) = (refl, tt)
+quiet_early h (Show s) = (refl, (refl, tt))
 quiet_early h Flush = (refl, tt)
 quiet_early h Checkpoint = (refl, tt)
 
@@ -212,7 +221,7 @@ silent_six a b c d e f u v w x y z = record { each = (refl, (refl, (refl, (refl,
 
 quiet_later : (h : State) (logged : ℕ) (c : Call) (tests : List (Bool × Answer)) → LaterTests h logged c tests → Quiet tests
 quiet_later h logged (Write s table key action) tests (g, i, w, is) =
-    let all : Silent (write_tests h logged g i s table key action) = silent_append _ _ (silent_append _ _ (silent_waited h.queue s (holder h table key)) (silent_serial h.commits (isolation_of h s) table key)) (silent_six (adds action && has_row table key (rows_now h s)) (not (adds action) && not (has_row table key (rows_now h s))) (adds action && full_block h table key) (full_slots h s table key) (is_full (book_at h.books g)) (nat_le WORN logged) Duplicate NotFound BlockFull SlotsFull (RollbackFull g (made_since (book_at h.books g))) WornOut) in
+    let all : Silent (write_tests h logged g i s table key action) = silent_append _ _ (silent_append _ _ (silent_waited h.queue s (holder h table key)) (silent_serial h.commits (isolation_of h s) table key)) (silent_six (adds_now h s table key action && has_row table key (rows_now h s)) (not (adds_now h s table key action) && not (has_row table key (rows_now h s))) (adds_now h s table key action && full_block h table key) (full_slots h s table key) (is_full (book_at h.books g)) (nat_le WORN logged) Duplicate NotFound BlockFull SlotsFull (RollbackFull g (made_since (book_at h.books g))) WornOut) in
     subst Quiet (sym is) all.each
 quiet_later h logged (Commit s) tests is = subst Quiet (sym is) tt
 quiet_later h logged (CommitLater s) tests is = subst Quiet (sym is) tt
@@ -224,7 +233,9 @@ quiet_later h logged (OpenCursor s name table lo hi) tests is = subst Quiet (sym
 quiet_later h logged (Fetch s name) tests is = subst Quiet (sym is) (refl, tt)
 quiet_later h logged (CloseCursor s name) tests is = subst Quiet (sym is) (refl, tt)
 quiet_later h logged (Cancel s) tests is = subst Quiet (sym is) (refl, tt)
+quiet_later h logged (Get s table key) tests is = subst Quiet (sym is) tt
 quiet_later h logged (Marks seg) tests is = subst Quiet (sym is) tt
+quiet_later h logged (Show s) tests is = subst Quiet (sym is) tt
 quiet_later h logged Flush tests is = subst Quiet (sym is) tt
 quiet_later h logged Checkpoint tests is = subst Quiet (sym is) tt
 
@@ -250,6 +261,13 @@ quiet_row h (Some cursor) = quiet_given (slice_get (cursor_rows h cursor) cursor
     quiet_given : (row : Option TableRow) → kind (given row) ≡ 0
     quiet_given None = refl
     quiet_given (Some row) = refl
+
+quiet_got : (key : ℕ) (value : Option (List ℕ)) → kind (got key value) ≡ 0
+quiet_got key None = refl
+quiet_got key (Some value) = refl
+
+quiet_shown : (h : State) (s : ℕ) → kind (if is_idle h s then Idle else Shown s (activity_of h s)) ≡ 0
+quiet_shown h s = cond_both (is_idle h s) Idle (Shown s (activity_of h s)) (λ (x : Answer). kind x ≡ 0) (λ yes. refl) (λ no. refl)
 
 -- so not that of a call whose good answer tells none
 other_kind : (h : State) (logged : ℕ) (c : Call) (r : Answer) → 0 < kind r → MayAnswer h logged c r → kind (granted h c) ≡ 0 → ⊥
@@ -278,6 +296,8 @@ committed_safe h h2 logged n (RollbackTo s name) may after = absurd (other_kind 
 committed_safe h h2 logged n (OpenCursor s name table lo hi) may after = absurd (other_kind h logged (OpenCursor s name table lo hi) (Committed n) (omega arith) may refl)
 committed_safe h h2 logged n (Fetch s name) may after = absurd (other_kind h logged (Fetch s name) (Committed n) (omega arith) may (quiet_row h (cursor_of h s name)))
 committed_safe h h2 logged n (CloseCursor s name) may after = absurd (other_kind h logged (CloseCursor s name) (Committed n) (omega arith) may refl)
+committed_safe h h2 logged n (Get s table key) may after = absurd (other_kind h logged (Get s table key) (Committed n) (omega arith) may (quiet_got key (value_of table key (rows_seen h s))))
+committed_safe h h2 logged n (Show s) may after = absurd (other_kind h logged (Show s) (Committed n) (omega arith) may (quiet_shown h s))
 committed_safe h h2 logged n (Cancel s) may after = absurd (other_kind h logged (Cancel s) (Committed n) (omega arith) may refl)
 committed_safe h h2 logged n (Marks seg) may after = absurd (other_kind h logged (Marks seg) (Committed n) (omega arith) may refl)
 committed_safe h h2 logged n Checkpoint may after = absurd (other_kind h logged Checkpoint (Committed n) (omega arith) may refl)
@@ -303,6 +323,8 @@ flushed_safe h h2 logged n (RollbackTo s name) may after = absurd (other_kind h 
 flushed_safe h h2 logged n (OpenCursor s name table lo hi) may after = absurd (other_kind h logged (OpenCursor s name table lo hi) (Flushed n) (omega arith) may refl)
 flushed_safe h h2 logged n (Fetch s name) may after = absurd (other_kind h logged (Fetch s name) (Flushed n) (omega arith) may (quiet_row h (cursor_of h s name)))
 flushed_safe h h2 logged n (CloseCursor s name) may after = absurd (other_kind h logged (CloseCursor s name) (Flushed n) (omega arith) may refl)
+flushed_safe h h2 logged n (Get s table key) may after = absurd (other_kind h logged (Get s table key) (Flushed n) (omega arith) may (quiet_got key (value_of table key (rows_seen h s))))
+flushed_safe h h2 logged n (Show s) may after = absurd (other_kind h logged (Show s) (Flushed n) (omega arith) may (quiet_shown h s))
 flushed_safe h h2 logged n (Cancel s) may after = absurd (other_kind h logged (Cancel s) (Flushed n) (omega arith) may refl)
 flushed_safe h h2 logged n (Marks seg) may after = absurd (other_kind h logged (Marks seg) (Flushed n) (omega arith) may refl)
 flushed_safe h h2 logged n Checkpoint may after = absurd (other_kind h logged Checkpoint (Flushed n) (omega arith) may refl)

@@ -4,7 +4,7 @@ use Rattle.std.proofs.Common.{◌≡◌, ◌≢◌, ◌∙◌, inl, inr, ⊎_eli
 use Rattle.std.proofs.lemmas.Bool.{cond_both, cases_Bool, false≢true}
 use Rattle.rb_base.specs.Counts.{err_is}
 use Rattle.rb_model.specs.Answers.{write_answer}
-use Rattle.rb_model.specs.Calls.{Call, Write, Commit, CommitLater, Flush, Numbered, Flushed, Rollback, SetMode, SetSavepoint, RollbackTo, OpenCursor, Fetch, CloseCursor, Cancel, Marks, Checkpoint, Answer, Done, Waits, Committed, Given, End, Marked, Refused, is_disk_fault, is_fault}
+use Rattle.rb_model.specs.Calls.{Call, Write, Commit, CommitLater, Flush, Numbered, Flushed, Rollback, SetMode, SetSavepoint, RollbackTo, OpenCursor, Fetch, CloseCursor, Get, Cancel, Marks, Show, Checkpoint, Answer, Done, Waits, Committed, Given, End, Absent, Marked, Shown, Idle, Refused, is_disk_fault, is_fault}
 use Rattle.rb_model.specs.NextState.{After, AfterGrant, AfterWait, EndsAs}
 use Rattle.rb_model.specs.State.{State, Cursor}
 use Rattle.rb_model.specs.declared.refusal.Refusal.{Refusal}
@@ -50,6 +50,8 @@ grant_stays h h2 (RollbackTo s name) (p, named, e) = as_stays h h2 _ e refl (len
 grant_stays h h2 (OpenCursor s name table lo hi) e = as_stays h h2 _ e refl (length-set h.sessions (s - 1) _) refl
 grant_stays h h2 (Fetch s name) e = as_stays h h2 _ e refl (length-set h.sessions (s - 1) _) refl
 grant_stays h h2 (CloseCursor s name) e = as_stays h h2 _ e refl (length-set h.sessions (s - 1) _) refl
+grant_stays h h2 (Get s table key) e = same_stays h h2 e
+grant_stays h h2 (Show s) e = same_stays h h2 e
 grant_stays h h2 (Cancel s) e = as_stays h h2 _ e refl refl refl
 grant_stays h h2 (Marks seg) e = same_stays h h2 e
 grant_stays h h2 Flush e = as_stays h h2 _ e refl refl refl
@@ -66,6 +68,8 @@ wait_stays h h2 (RollbackTo s name) on e = same_stays h h2 e
 wait_stays h h2 (OpenCursor s name table lo hi) on e = same_stays h h2 e
 wait_stays h h2 (Fetch s name) on e = same_stays h h2 e
 wait_stays h h2 (CloseCursor s name) on e = same_stays h h2 e
+wait_stays h h2 (Get s table key) on e = same_stays h h2 e
+wait_stays h h2 (Show s) on e = same_stays h h2 e
 wait_stays h h2 (Cancel s) on e = same_stays h h2 e
 wait_stays h h2 (Marks seg) on e = same_stays h h2 e
 wait_stays h h2 Flush on e = same_stays h h2 e
@@ -87,7 +91,10 @@ fine_stays h h2 c (Numbered n) is after = grant_stays h h2 c after
 fine_stays h h2 c (Flushed n) is after = grant_stays h h2 c after
 fine_stays h h2 c (Given key value) is after = grant_stays h h2 c after
 fine_stays h h2 c End is after = same_stays h h2 after
+fine_stays h h2 c Absent is after = same_stays h h2 after
 fine_stays h h2 c (Marked seg writes lost) is after = same_stays h h2 after
+fine_stays h h2 c (Shown s activity) is after = same_stays h h2 after
+fine_stays h h2 c Idle is after = same_stays h h2 after
 fine_stays h h2 c (Refused why) is after = same_stays h h2 (refused_same h h2 c why is after)
 
 pub after_stops : (h h2 : State) (c : Call) (r : Answer) → is_fault r ≡ true → After h c r h2 → h2 ≡ record h { stopped = true }
@@ -99,7 +106,10 @@ after_stops h h2 c (Numbered n) is after = absurd (false≢true is)
 after_stops h h2 c (Flushed n) is after = absurd (false≢true is)
 after_stops h h2 c (Given key value) is after = absurd (false≢true is)
 after_stops h h2 c End is after = absurd (false≢true is)
+after_stops h h2 c Absent is after = absurd (false≢true is)
 after_stops h h2 c (Marked seg writes lost) is after = absurd (false≢true is)
+after_stops h h2 c (Shown s activity) is after = absurd (false≢true is)
+after_stops h h2 c Idle is after = absurd (false≢true is)
 
 -- what goes on after a call went on before it, and the call told of no fault
 pub went_on : (h h2 : State) (c : Call) (r : Answer) → After h c r h2 → h2.stopped ≡ false → h.stopped ≡ false

@@ -1,7 +1,8 @@
 -- What the arguments and results of the engine's calls are as the machine's actions and answers.
 use Rattle.std.specs.Prelude.{◌≡◌, ℕ, Option, None, Some, Result, Ok, Err}
-use Rattle.rb_model.specs.Calls.{Action, Answer, Waits, Committed, Numbered, Flushed, Given, Marked, Refused}
+use Rattle.rb_model.specs.Calls.{Action, Answer, Waits, Committed, Numbered, Flushed, Given, Marked, Shown, Refused}
 use Rattle.rb_model.specs.Calls as calls
+use Rattle.rb_model.specs.declared.activity.Activity.{Activity}
 use Rattle.rb_model.specs.declared.outcome.Outcome as code
 use Rattle.rb_model.specs.declared.outcome.Outcome.TheVariants as answers
 use Rattle.rb_model.specs.declared.marks.Marks.{Marks}
@@ -18,6 +19,7 @@ use Rattle.rb_model.specs.declared.row.Fetched.TheVariants as fetched
 abbrev pub action_of : Op → Action
 action_of (op.Insert value) = calls.Insert value.now
 action_of (op.Update value) = calls.Update value.now
+action_of (op.Put value) = calls.Upsert value.now
 action_of op.Delete = calls.Delete
 
 -- and none holds the row as it is
@@ -55,6 +57,24 @@ abbrev pub marks_answer : ℕ → Result Marks Refusal → Answer
 marks_answer seg (Ok marks) = Marked seg marks.writes marks.lost
 marks_answer seg (Err why) = Refused why
 
+-- of what a session has under way
+abbrev pub shown_answer : ℕ → Option Activity → Answer
+shown_answer s None = calls.Idle
+shown_answer s (Some activity) = Shown s activity
+
+abbrev pub activity_answer : ℕ → Result (Option Activity) Refusal → Answer
+activity_answer s (Ok activity) = shown_answer s activity
+activity_answer s (Err why) = Refused why
+
+-- of a read of one key
+abbrev pub read_answer : Fetched → Row → Answer
+read_answer fetched.Row row = Given row.key row.value.items
+read_answer fetched.End row = calls.Absent
+
+abbrev pub get_answer : Result Fetched Refusal → Row → Answer
+get_answer (Ok f) row = read_answer f row
+get_answer (Err why) row = Refused why
+
 abbrev pub fetched_answer : Fetched → Row → Answer
 fetched_answer fetched.Row row = Given row.key row.value.items
 fetched_answer fetched.End row = calls.End
@@ -79,5 +99,8 @@ answer_of (answers.Numbered number) row = Numbered number
 answer_of (answers.Flushed number) row = Flushed number
 answer_of answers.Row row = Given row.key row.value.items
 answer_of answers.End row = calls.End
+answer_of answers.Absent row = calls.Absent
 answer_of (answers.Marked seg writes lost) row = Marked seg writes lost
+answer_of (answers.Shown session activity) row = Shown session activity
+answer_of answers.Idle row = calls.Idle
 answer_of (answers.Refused why) row = Refused why

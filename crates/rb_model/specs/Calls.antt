@@ -8,17 +8,19 @@ use Rattle.std.specs.Fmt.{decimal}
 use Rattle.std.specs.Str.{bytes_eq}
 use Rattle.rb_base.specs.declared.sizes.TheConstants.{VALUE_BYTES, WORN}
 use Rattle.rb_model.specs.Book.{Owner, IsBegun, book_at, is_full}
-use Rattle.rb_model.specs.Change.{Change}
-pub use Rattle.rb_model.specs.Change.{Action, Insert, Update, Delete, Lock}
+pub use Rattle.rb_model.specs.Change.{Action, Insert, Update, Upsert, Delete, Lock}
 use Rattle.rb_model.specs.Full.{full_block}
-use Rattle.rb_model.specs.Isolation.{is_read_committed, is_read_only}
+use Rattle.rb_model.specs.Isolation.{is_read_committed, is_read_only, mode_of, snapshot_at}
 use Rattle.rb_model.specs.Late.{late}
-use Rattle.rb_model.specs.Queue.{Waiter, closes}
-use Rattle.rb_model.specs.Rows.{Commits, TableRow, has_row, last_scn, over, rows_at}
+use Rattle.rb_model.specs.Queue.{Waiter, closes, place_of}
+use Rattle.rb_model.specs.Rows.{Commits, TableRow, has_row, last_scn, over, rows_at, value_of}
 use Rattle.rb_model.specs.State.{State, Session, Cursor, Savepoint, session_of, session_own, isolation_of, owner_at}
 use Rattle.rb_model.specs.State.{is_session, is_table}
 use Rattle.rb_model.specs.State.{is_waiting, savepoint_of, cursor_of, cursor_rows}
 use Rattle.rb_model.specs.Tests.{holder, full_slots, made_since}
+use Rattle.rb_model.specs.declared.activity.Activity.{Activity}
+use Rattle.rb_model.specs.declared.activity.Wait.{Wait}
+use Rattle.rb_model.specs.declared.activity.Wait.TheVariants as wait
 use Rattle.rb_model.specs.declared.mode.Isolation.{Isolation}
 use Rattle.rb_model.specs.declared.mode.Isolation.TheVariants as isolation
 use Rattle.rb_model.specs.declared.mode.Mode.{Mode}
@@ -43,9 +45,13 @@ pub data Call : Type 0 where
   OpenCursor : (session : ℕ) (name : List ℕ) (table lo hi : ℕ) → Call
   Fetch : (session : ℕ) (name : List ℕ) → Call
   CloseCursor : (session : ℕ) (name : List ℕ) → Call
+  -- a row by its key, without a cursor
+  Get : (session table key : ℕ) → Call
   -- the session's write is given up
   Cancel : (session : ℕ) → Call
   Marks : (seg : ℕ) → Call
+  -- what a session has under way
+  Show : (session : ℕ) → Call
   -- all that waits is made last
   Flush : Call
   Checkpoint : Call
@@ -65,21 +71,30 @@ pub data Answer : Type 0 where
   Given : (key : ℕ) (value : List ℕ) → Answer
   -- all rows are given
   End : Answer
+  -- the key has no row
+  Absent : Answer
   -- how many records that segment has made, and the greatest commit number that it gave up
   Marked : (seg writes lost : ℕ) → Answer
+  -- what that session has under way
+  Shown : (session : ℕ) (activity : Activity) → Answer
+  -- a session has nothing under way
+  Idle : Answer
   Refused : Refusal → Answer
 
--- an insert makes a row, and each other write needs the one that is there
-abbrev pub adds : Action → Bool
-adds (Insert value) = true
-adds (Update value) = false
-adds Delete = false
-adds Lock = false
+-- Whether an action makes a row, by whether its key has one: an insert does, an upsert does where there is none, and
+-- each other write needs the one that is there.
+abbrev pub adds : Action → Bool → Bool
+adds (Insert value) present = true
+adds (Update value) present = false
+adds (Upsert value) present = not present
+adds Delete present = false
+adds Lock present = false
 
 -- the value has more bytes than a row
 abbrev pub is_too_long : Action → Bool
 is_too_long (Insert value) = nat_lt VALUE_BYTES (length value)
 is_too_long (Update value) = nat_lt VALUE_BYTES (length value)
+is_too_long (Upsert value) = nat_lt VALUE_BYTES (length value)
 is_too_long Delete = false
 is_too_long Lock = false
 
@@ -87,13 +102,9 @@ is_too_long Lock = false
 abbrev pub rows_now : State → ℕ → List TableRow
 rows_now h s = over h.shape.blocks (rows_at h.shape.blocks h.commits (last_scn h.commits)) (session_own h s)
 
-abbrev pub is_empty : List Change → Bool
+abbrev pub is_empty : {X : Type 0} → List X → Bool
 is_empty [] = true
-is_empty (c ∷ changes) = false
-
-abbrev pub is_none_set : List Savepoint → Bool
-is_none_set [] = true
-is_none_set (p ∷ savepoints) = false
+is_empty (x ∷ xs) = false
 
 -- the words of a refusal
 abbrev pub refusal_words : Refusal → List ℕ
@@ -188,7 +199,7 @@ serial_tests commits (isolation.Serializable snapshot) table key = refused_by sn
 
 -- the transaction has neither a mode of its own nor changes nor savepoints
 abbrev pub is_unbegun : Session → Bool
-is_unbegun session = is_read_committed session.isolation && (is_empty session.own && is_none_set session.savepoints)
+is_unbegun session = is_read_committed session.isolation && (is_empty session.own && is_empty session.savepoints)
 
 -- the tests of a call that names a session
 abbrev pub number_tests : State → ℕ → List (Bool × Answer)
@@ -214,19 +225,25 @@ early_tests h (OpenCursor s name table lo hi) =
     session_tests h s ++ (not (is_table h table), Refused NoTable) ∷ []
 early_tests h (Fetch s name) = session_tests h s
 early_tests h (CloseCursor s name) = session_tests h s
+early_tests h (Get s table key) = session_tests h s ++ (not (is_table h table), Refused NoTable) ∷ []
 early_tests h (Cancel s) = number_tests h s
 early_tests h (Marks seg) = (h.stopped, Refused Stopped) ∷ []
+early_tests h (Show s) = number_tests h s
 early_tests h Flush = (h.stopped, Refused Stopped) ∷ []
 early_tests h Checkpoint = (h.stopped, Refused Stopped) ∷ []
+
+-- the write makes a row, as its session sees the key now
+abbrev pub adds_now : State → (s table key : ℕ) → Action → Bool
+adds_now h s table key action = adds action (has_row table key (rows_now h s))
 
 -- the tests of a write of a session that writes in slot i of segment g, behind that log number
 abbrev pub write_tests : State → (logged g i s table key : ℕ) → Action → List (Bool × Answer)
 write_tests h logged g i s table key action =
     waited h.queue s (holder h table key)
     ++ serial_tests h.commits (isolation_of h s) table key
-    ++ (adds action && has_row table key (rows_now h s), Refused Duplicate)
-    ∷ (not (adds action) && not (has_row table key (rows_now h s)), Refused NotFound)
-    ∷ (adds action && full_block h table key, Refused BlockFull)
+    ++ (adds_now h s table key action && has_row table key (rows_now h s), Refused Duplicate)
+    ∷ (not (adds_now h s table key action) && not (has_row table key (rows_now h s)), Refused NotFound)
+    ∷ (adds_now h s table key action && full_block h table key, Refused BlockFull)
     ∷ (full_slots h s table key, Refused SlotsFull)
     ∷ (is_full (book_at h.books g), Refused (RollbackFull g (made_since (book_at h.books g))))
     ∷ (nat_le WORN logged, Refused WornOut) ∷ []
@@ -251,7 +268,9 @@ name_tests h (Write s table key action) = []
 name_tests h (Commit s) = []
 name_tests h (CommitLater s) = []
 name_tests h (Rollback s) = []
+name_tests h (Get s table key) = []
 name_tests h (Marks seg) = []
+name_tests h (Show s) = []
 name_tests h Flush = []
 name_tests h Checkpoint = []
 
@@ -263,6 +282,38 @@ given (Some row) = Given row.key row.value
 abbrev pub next_row : State → Option Cursor → Answer
 next_row h None = End
 next_row h (Some cursor) = given (slice_get (cursor_rows h cursor) cursor.taken)
+
+-- the number at which a query of the session reads that begins now
+abbrev pub snapshot_of : State → ℕ → ℕ
+snapshot_of h s = snapshot_at (last_scn h.commits) (isolation_of h s)
+
+-- the rows that it sees: those at that number, with the session's own changes over them
+abbrev pub rows_seen : State → ℕ → List TableRow
+rows_seen h s = over h.shape.blocks (rows_at h.shape.blocks h.commits (snapshot_of h s)) (session_own h s)
+
+-- a row as the answer to a read of its key
+abbrev pub got : ℕ → Option (List ℕ) → Answer
+got key None = Absent
+got key (Some value) = Given key value
+
+-- how a session's write waits, by its place in the queue
+abbrev pub wait_by : Option (Option ℕ) → Wait
+wait_by None = wait.Free
+wait_by (Some None) = wait.Ready
+wait_by (Some (Some u)) = wait.On u
+
+-- what the session has under way
+abbrev pub activity_of : State → ℕ → Activity
+activity_of h s = record {
+  changes = length (session_own h s);
+  cursors = length (session_of h s).cursors;
+  mode = mode_of (isolation_of h s);
+  wait = wait_by (place_of s h.queue);
+}
+
+-- it has nothing under way: no mode of its own, change, savepoint or cursor, and no place in the queue
+abbrev pub is_idle : State → ℕ → Bool
+is_idle h s = is_unbegun (session_of h s) && (is_empty (session_of h s).cursors && is_none (place_of s h.queue))
 
 -- what a call answers that no test refuses
 abbrev pub granted : State → Call → Answer
@@ -276,8 +327,10 @@ granted h (RollbackTo s name) = Done
 granted h (OpenCursor s name table lo hi) = Done
 granted h (Fetch s name) = next_row h (cursor_of h s name)
 granted h (CloseCursor s name) = Done
+granted h (Get s table key) = got key (value_of table key (rows_seen h s))
 granted h (Cancel s) = Done
 granted h (Marks seg) = Marked seg (book_at h.books seg).writes (book_at h.books seg).lost
+granted h (Show s) = if is_idle h s then Idle else Shown s (activity_of h s)
 granted h Flush = Flushed (last_scn h.commits)
 granted h Checkpoint = Done
 
@@ -296,11 +349,12 @@ LaterTests h logged (Write s table key action) tests =
     (g : ℕ) × (i : ℕ) × WritesIn h s g i × (tests ≡ write_tests h logged g i s table key action)
 LaterTests h logged call tests = tests ≡ name_tests h call
 
--- The call reads at that snapshot: a fetch at its cursor's, and a write of a serializable transaction, where no other
--- session is waited for, at the transaction's.
+-- The call reads at that snapshot: a fetch at its cursor's, a read of one key at that of a query which begins now, and
+-- a write of a serializable transaction, where no other session is waited for, at the transaction's.
 abbrev pub ReadsAt : State → Call → ℕ → Type 0
 ReadsAt h (Fetch s name) snapshot =
     (cursor : Cursor) × (cursor_of h s name ≡ Some cursor) × (cursor.number ≡ snapshot)
+ReadsAt h (Get s table key) snapshot = snapshot ≡ snapshot_of h s
 ReadsAt h (Write s table key action) snapshot = (isolation_of h s ≡ isolation.Serializable snapshot)
     × (none_applies (waited h.queue s (holder h table key)) ≡ true)
 ReadsAt h call snapshot = ⊥

@@ -37,6 +37,8 @@ gone table key = record { table = table; key = key; kind = Gone; place = no_plac
 pub data Action : Type 0 where
   Insert : (value : List ℕ) → Action
   Update : (value : List ℕ) → Action
+  -- whichever of the two the key's row asks for
+  Upsert : (value : List ℕ) → Action
   Delete : Action
   -- holds the key's row as it is
   Lock : Action

@@ -26,3 +26,9 @@ abbrev pub is_read_only : Isolation → Bool
 is_read_only isolation.ReadCommitted = false
 is_read_only (isolation.ReadOnly snapshot) = true
 is_read_only (isolation.Serializable snapshot) = false
+
+-- the mode that a transaction has asked for
+abbrev pub mode_of : Isolation → Mode
+mode_of isolation.ReadCommitted = mode.ReadCommitted
+mode_of (isolation.ReadOnly snapshot) = mode.ReadOnly
+mode_of (isolation.Serializable snapshot) = mode.Serializable

@@ -5,6 +5,7 @@ pub mod Calls
 pub mod Change
 pub mod Full
 pub mod Isolation
+pub mod KeyLaws
 pub mod Late
 pub mod Lines
 pub mod NameTest

@@ -1,16 +1,21 @@
 -- How a script is cut into lines, which command a line spells and what it calls, and the texts of the replies.
-use Rattle.std.specs.Prelude.{◌≡◌, ◌≢◌, ℕ, ◌^◌, ◌<◌, ◌≤◌, Bool, true, ◌==◌, ◌&&◌}
-use Rattle.std.specs.Prelude.{nat_le}
+use Rattle.std.specs.Prelude.{◌≡◌, ◌≢◌, ℕ, suc, ◌^◌, ◌<◌, ◌≤◌, Bool, true, ◌==◌}
+use Rattle.std.specs.Prelude.{◌&&◌, nat_le}
 use Rattle.std.specs.Prelude.{if◌then◌else◌, IsTrue, List, [], ◌∷◌, ◌++◌, length, codes, Option, None}
 use Rattle.std.specs.Prelude.{Some}
 use Rattle.std.specs.List.{list_all, AllByRecursion}
 use Rattle.std.specs.Fmt.{decimal}
 use Rattle.rb_model.specs.NameTest.{is_name}
 use Rattle.rb_base.specs.declared.shape.Shape.{Shape}
-use Rattle.rb_model.specs.Calls.{Action, Insert, Update, Delete, Lock, Answer, Done, Waits, Committed, Numbered}
-use Rattle.rb_model.specs.Calls.{Flushed, Given, End, Marked, Refused, number_text, refusal_text}
+use Rattle.rb_model.specs.Calls.{Action, Insert, Update, Upsert, Delete, Lock, Answer, Done, Waits, Committed}
+use Rattle.rb_model.specs.Calls.{Numbered, Flushed, Given, End, Absent, Marked, Shown, Idle, Refused}
+use Rattle.rb_model.specs.Calls.{number_text, refusal_text}
 use Rattle.rb_model.specs.Calls.{Call, Write, Commit, CommitLater, Rollback, SetMode, SetSavepoint, RollbackTo}
-use Rattle.rb_model.specs.Calls.{OpenCursor, Fetch, CloseCursor, Cancel, Marks, Flush, Checkpoint}
+use Rattle.rb_model.specs.Calls.{OpenCursor, Fetch, CloseCursor, Get, Cancel, Marks, Show, Flush, Checkpoint}
+use Rattle.rb_model.specs.State.{session_count}
+use Rattle.rb_model.specs.declared.activity.Activity.{Activity}
+use Rattle.rb_model.specs.declared.activity.Wait.{Wait}
+use Rattle.rb_model.specs.declared.activity.Wait.TheVariants as wait
 use Rattle.rb_model.specs.declared.mode.Mode.{Mode}
 use Rattle.rb_model.specs.declared.mode.Mode.TheVariants as mode
 
@@ -47,8 +52,10 @@ pub data Command : Type 0 where
   OpenLine : (session : ℕ) (name : List ℕ) (table lo hi : ℕ) → Command
   FetchLine : (session : ℕ) (name : List ℕ) (count : ℕ) → Command
   CloseLine : (session : ℕ) (name : List ℕ) → Command
+  GetLine : (session table key : ℕ) → Command
   CancelLine : (session : ℕ) → Command
   MarksLine : Command
+  SessionsLine : Command
   FlushLine : Command
   CheckpointLine : Command
 
@@ -64,8 +71,10 @@ call_of (RollbackToLine s name) k = RollbackTo s name
 call_of (OpenLine s name table lo hi) k = OpenCursor s name table lo hi
 call_of (FetchLine s name count) k = Fetch s name
 call_of (CloseLine s name) k = CloseCursor s name
+call_of (GetLine s table key) k = Get s table key
 call_of (CancelLine s) k = Cancel s
 call_of MarksLine k = Marks k
+call_of SessionsLine k = Show (suc k)
 call_of FlushLine k = Flush
 call_of CheckpointLine k = Checkpoint
 
@@ -73,6 +82,7 @@ call_of CheckpointLine k = Checkpoint
 abbrev pub most_calls : Shape → Command → ℕ
 most_calls shape (FetchLine s name count) = count
 most_calls shape MarksLine = shape.segments
+most_calls shape SessionsLine = session_count
 most_calls shape _ = 1
 
 -- the session that it names, to which the replies are
@@ -87,8 +97,10 @@ caller (RollbackToLine s name) = Some s
 caller (OpenLine s name table lo hi) = Some s
 caller (FetchLine s name count) = Some s
 caller (CloseLine s name) = Some s
+caller (GetLine s table key) = Some s
 caller (CancelLine s) = Some s
 caller MarksLine = None
+caller SessionsLine = None
 caller FlushLine = None
 caller CheckpointLine = None
 
@@ -96,6 +108,7 @@ caller CheckpointLine = None
 pub data Word : Type 0 where
   InsertWord : Word
   UpdateWord : Word
+  PutWord : Word
   DeleteWord : Word
   LockWord : Word
   CommitWord : Word
@@ -105,14 +118,17 @@ pub data Word : Type 0 where
   OpenWord : Word
   FetchWord : Word
   CloseWord : Word
+  GetWord : Word
   CancelWord : Word
   MarksWord : Word
+  SessionsWord : Word
   FlushWord : Word
   CheckpointWord : Word
 
 abbrev pub word_text : Word → List ℕ
 word_text InsertWord = codes "insert"
 word_text UpdateWord = codes "update"
+word_text PutWord = codes "put"
 word_text DeleteWord = codes "delete"
 word_text LockWord = codes "lock"
 word_text CommitWord = codes "commit"
@@ -122,14 +138,17 @@ word_text SavepointWord = codes "savepoint"
 word_text OpenWord = codes "open"
 word_text FetchWord = codes "fetch"
 word_text CloseWord = codes "close"
+word_text GetWord = codes "get"
 word_text CancelWord = codes "cancel"
 word_text MarksWord = codes "marks"
+word_text SessionsWord = codes "sessions"
 word_text FlushWord = codes "flush"
 word_text CheckpointWord = codes "checkpoint"
 
 abbrev pub word_of : Command → Word
 word_of (WriteLine s table key (Insert value)) = InsertWord
 word_of (WriteLine s table key (Update value)) = UpdateWord
+word_of (WriteLine s table key (Upsert value)) = PutWord
 word_of (WriteLine s table key Delete) = DeleteWord
 word_of (WriteLine s table key Lock) = LockWord
 word_of (CommitLine s) = CommitWord
@@ -141,8 +160,10 @@ word_of (RollbackToLine s name) = RollbackWord
 word_of (OpenLine s name table lo hi) = OpenWord
 word_of (FetchLine s name count) = FetchWord
 word_of (CloseLine s name) = CloseWord
+word_of (GetLine s table key) = GetWord
 word_of (CancelLine s) = CancelWord
 word_of MarksLine = MarksWord
+word_of SessionsLine = SessionsWord
 word_of FlushLine = FlushWord
 word_of CheckpointLine = CheckpointWord
 
@@ -160,6 +181,7 @@ pub data Field : Type 0 where
 abbrev pub fields_of : Command → List Field
 fields_of (WriteLine s table key (Insert value)) = Id s ∷ Id table ∷ Key key ∷ Valued value ∷ []
 fields_of (WriteLine s table key (Update value)) = Id s ∷ Id table ∷ Key key ∷ Valued value ∷ []
+fields_of (WriteLine s table key (Upsert value)) = Id s ∷ Id table ∷ Key key ∷ Valued value ∷ []
 fields_of (WriteLine s table key Delete) = Id s ∷ Id table ∷ Key key ∷ []
 fields_of (WriteLine s table key Lock) = Id s ∷ Id table ∷ Key key ∷ []
 fields_of (CommitLine s) = Id s ∷ []
@@ -171,8 +193,10 @@ fields_of (RollbackToLine s name) = Id s ∷ Named name ∷ []
 fields_of (OpenLine s name table lo hi) = Id s ∷ Named name ∷ Id table ∷ Key lo ∷ Key hi ∷ []
 fields_of (FetchLine s name count) = Id s ∷ Named name ∷ Count count ∷ []
 fields_of (CloseLine s name) = Id s ∷ Named name ∷ []
+fields_of (GetLine s table key) = Id s ∷ Id table ∷ Key key ∷ []
 fields_of (CancelLine s) = Id s ∷ []
 fields_of MarksLine = []
+fields_of SessionsLine = []
 fields_of FlushLine = []
 fields_of CheckpointLine = []
 
@@ -225,6 +249,16 @@ Spells text command = IsCommand command × (text ≡ spelling command)
 abbrev pub SpellsNone : List ℕ → Type 0
 SpellsNone text = (command : Command) → IsCommand command → text ≢ spelling command
 
+-- how a session waits, behind what else it has under way
+abbrev pub wait_text : Wait → List ℕ
+wait_text wait.Free = []
+wait_text (wait.On session) = codes " waits" ++ number_text session
+wait_text wait.Ready = codes " ready"
+
+abbrev pub activity_text : Activity → List ℕ
+activity_text a = codes " changes" ++ number_text a.changes ++ codes " cursors" ++ number_text a.cursors
+    ++ codes " mode " ++ mode_text a.mode ++ wait_text a.wait
+
 abbrev pub answer_text : Answer → List ℕ
 answer_text Done = codes "ok"
 answer_text (Waits on) = codes "waits" ++ number_text on
@@ -233,8 +267,11 @@ answer_text (Numbered n) = codes "numbered" ++ number_text n
 answer_text (Flushed n) = codes "flushed" ++ number_text n
 answer_text (Given key value) = codes "row" ++ number_text key ++ 32 ∷ value
 answer_text End = codes "end"
+answer_text Absent = codes "not found"
 answer_text (Marked seg writes lost) =
     codes "segment" ++ number_text seg ++ codes " writes" ++ number_text writes ++ codes " lost" ++ number_text lost
+answer_text (Shown s activity) = codes "session" ++ number_text s ++ activity_text activity
+answer_text Idle = []
 answer_text (Refused why) = refusal_text why
 
 -- the session in front of a reply to one
@@ -242,8 +279,9 @@ abbrev pub caller_text : Option ℕ → List ℕ
 caller_text None = []
 caller_text (Some s) = decimal s ++ 32 ∷ []
 
--- the reply line to a session, or to none
+-- the reply line to a session, or to none; that a session has nothing under way is told by no line
 abbrev pub reply_text : Option ℕ → Answer → List ℕ
+reply_text to Idle = []
 reply_text to r = caller_text to ++ answer_text r ++ 10 ∷ []
 
 -- the reply to a line that is no command

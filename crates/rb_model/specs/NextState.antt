@@ -5,11 +5,13 @@ use Rattle.std.specs.Prelude.{if◌then◌else◌, cond, List, [], ◌∷◌, �
 use Rattle.std.specs.Prelude.{Some}
 use Rattle.std.specs.Str.{bytes_eq}
 use Rattle.rb_model.specs.Book.{Book, book_at, finished, left, marked, taken}
-use Rattle.rb_model.specs.Calls.{Call, Write, Commit, CommitLater, Rollback, OpenCursor, Fetch, CloseCursor, Marks}
-use Rattle.rb_model.specs.Calls.{Flush, Checkpoint}
-use Rattle.rb_model.specs.Calls.{Answer, Done, Waits, Committed, Numbered, Flushed, Given, End, Marked, Refused}
+use Rattle.rb_model.specs.Calls.{Call, Write, Commit, CommitLater, Rollback, OpenCursor, Fetch, CloseCursor, Get}
+use Rattle.rb_model.specs.Calls.{Marks, Show, Flush, Checkpoint}
+use Rattle.rb_model.specs.Calls.{Answer, Done, Waits, Committed, Numbered, Flushed, Given, End, Absent, Marked}
+use Rattle.rb_model.specs.Calls.{Shown, Idle, Refused}
 use Rattle.rb_model.specs.Calls.{is_disk_fault}
-use Rattle.rb_model.specs.Calls.{Action, Insert, Update, Delete, Lock, SetMode, SetSavepoint, RollbackTo, Cancel}
+use Rattle.rb_model.specs.Calls.{Action, Insert, Update, Upsert, Delete, Lock}
+use Rattle.rb_model.specs.Calls.{SetMode, SetSavepoint, RollbackTo, Cancel}
 use Rattle.rb_model.specs.Calls.{is_empty, without_savepoint}
 use Rattle.rb_model.specs.Calls.{Owned, HasNoSlot, WritesIn, has_slot}
 use Rattle.rb_model.specs.Change.{Asked, Change, Kind, Put, Gone, Held}
@@ -25,6 +27,7 @@ use Rattle.rb_model.specs.declared.refusal.Refusal.TheVariants.{TooOld}
 abbrev pub kind_by : Action → Kind
 kind_by (Insert value) = Put value
 kind_by (Update value) = Put value
+kind_by (Upsert value) = Put value
 kind_by Delete = Gone
 kind_by Lock = Held
 
@@ -179,8 +182,10 @@ AfterGrant h (OpenCursor s name table lo hi) h2 =
     h2 ≡ with_cursors h s (cursors_of h s ++ opened_cursor h s name table lo hi ∷ [])
 AfterGrant h (Fetch s name) h2 = h2 ≡ with_cursors h s (with_taken name (cursors_of h s))
 AfterGrant h (CloseCursor s name) h2 = h2 ≡ with_cursors h s (without_cursor name (cursors_of h s))
+AfterGrant h (Get s table key) h2 = h2 ≡ h
 AfterGrant h (Cancel s) h2 = h2 ≡ unqueued h s
 AfterGrant h (Marks seg) h2 = h2 ≡ h
+AfterGrant h (Show s) h2 = h2 ≡ h
 AfterGrant h Flush h2 = h2 ≡ all_safe h
 AfterGrant h Checkpoint h2 = h2 ≡ all_safe h
 
@@ -199,7 +204,10 @@ After h call (Numbered n) h2 = AfterGrant h call h2
 After h call (Flushed n) h2 = AfterGrant h call h2
 After h call (Given key value) h2 = AfterGrant h call h2
 After h call End h2 = h2 ≡ h
+After h call Absent h2 = h2 ≡ h
 After h call (Marked seg writes lost) h2 = h2 ≡ h
+After h call (Shown s activity) h2 = h2 ≡ h
+After h call Idle h2 = h2 ≡ h
 After h call (Refused why) h2 = h2 ≡ (if is_disk_fault why then record h { stopped = true } else h)
 
 -- How many groups a call with that answer gives the log: a write that is done one; a commit with changes one; the end
@@ -225,15 +233,18 @@ GrowsBy h (RollbackTo s name) n =
 GrowsBy h (OpenCursor s name table lo hi) n = n ≡ 0
 GrowsBy h (Fetch s name) n = n ≡ 0
 GrowsBy h (CloseCursor s name) n = n ≡ 0
+GrowsBy h (Get s table key) n = n ≡ 0
 GrowsBy h (Cancel s) n = n ≡ 0
 GrowsBy h (Marks seg) n = n ≡ 0
+GrowsBy h (Show s) n = n ≡ 0
 GrowsBy h Flush n = n ≡ 0
 GrowsBy h Checkpoint n = n ≡ 0
 
 -- A fetch may clean the blocks that it reads, by one group each: so it gives the log any number of groups up to the
--- blocks of a table. No other call that only reads gives it one.
+-- blocks of a table. A read of one key may clean its block. No other call that only reads gives the log a group.
 abbrev pub ReadsBy : State → Call → ℕ → Type 0
 ReadsBy h (Fetch s name) n = n ≤ h.shape.blocks
+ReadsBy h (Get s table key) n = n ≤ 1
 ReadsBy h call n = n ≡ 0
 
 -- One that is refused has read only where it is too old.
@@ -249,5 +260,8 @@ Grows h call (Flushed m) n = GrowsBy h call n
 Grows h call (Waits on) n = n ≡ 0
 Grows h call (Given key value) n = ReadsBy h call n
 Grows h call End n = ReadsBy h call n
+Grows h call Absent n = ReadsBy h call n
 Grows h call (Marked seg writes lost) n = n ≡ 0
+Grows h call (Shown s activity) n = n ≡ 0
+Grows h call Idle n = n ≡ 0
 Grows h call (Refused why) n = RefusedBy h call why n

@@ -4,7 +4,8 @@ use Rattle.std.specs.Prelude.{Bool, true, false}
 use Rattle.std.specs.Prelude.{MatchBool, List, [], ◌∷◌, ◌++◌, length, Option, None, Some}
 use Rattle.rb_model.specs.Change.{Asked}
 use Rattle.rb_model.specs.State.{State, asked_of}
-use Rattle.rb_model.specs.Calls.{Call, Write, Answer, Given, Marked, Refused, MayAnswer, failed_in, is_fault}
+use Rattle.rb_model.specs.Calls.{Call, Write, Answer, Given, Marked, Shown, Idle, Refused, MayAnswer, failed_in}
+use Rattle.rb_model.specs.Calls.{is_fault}
 use Rattle.rb_model.specs.NextState.{After, Grows, unqueued}
 use Rattle.rb_model.specs.Queue.{first_ready}
 use Rattle.rb_model.specs.Lines.{Command, Spells, SpellsNone, call_of, most_calls, caller}
@@ -50,10 +51,12 @@ pub record CallOut (m : Logged) (outside : Outside) (call : Call) (answer : Answ
 abbrev pub goes_on : Answer → Bool
 goes_on (Given key value) = true
 goes_on (Marked seg writes lost) = true
+goes_on (Shown s activity) = true
+goes_on Idle = true
 goes_on _ = false
 
 -- The calls of a command from its k-th on, up to `count`, each with its reply line. They end at the first answer that
--- is neither a row nor the marks of a segment.
+-- is neither a row nor what a segment or a session tells of itself.
 abbrev pub CallsOut : Logged → Outside → Command → ℕ → ℕ → List ℕ → Logged → Type 0
 CallsOut m outside c k zero out m2 = (out ≡ []) × (m2 ≡ m)
 CallsOut m outside c k (suc count) out m2 =

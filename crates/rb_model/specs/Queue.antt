@@ -18,6 +18,11 @@ abbrev pub waits_for : ℕ → List Waiter → Option ℕ
 waits_for s [] = None
 waits_for s (w ∷ queue) = if w.session == s then w.on else waits_for s queue
 
+-- its place in the queue, where it has one: for whom it waits there, if it isn't ready
+abbrev pub place_of : ℕ → List Waiter → Option (Option ℕ)
+place_of s [] = None
+place_of s (w ∷ queue) = if w.session == s then Some w.on else place_of s queue
+
 -- Following "waits for" from session u reaches s.
 pub data Reaches (queue : List Waiter) (s : ℕ) : ℕ → Type 0 where
   here : Reaches queue s s

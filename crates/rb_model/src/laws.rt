@@ -1,7 +1,9 @@
-//! What holds of a segment's book and of what is acknowledged, as clauses for proofs to cite. Nothing calls it.
+//! What holds of a segment's book, of what is acknowledged and of calls of one key, as clauses for proofs to cite.
+//! Nothing calls it.
 ghost use Rattle.rb_model.specs.BookLaws.{FreshIsSound, TakenIsSound, MarkedIsSound, FinishedIsSound, LeftIsSound};
 ghost use Rattle.rb_model.specs.BookLaws.{CountsRecords, KeepsLost, DropsOneTurn, DropsNoOwnersTurn, ReusesOneSlot};
 ghost use Rattle.rb_model.specs.BookLaws.{BeginsThere, BeginsAtOne, FullSince, KeepsSlots, KeepsNewest};
+ghost use Rattle.rb_model.specs.KeyLaws.{GetIsOneFetch, UpsertIsEither};
 ghost use Rattle.rb_model.specs.Out.{outside_by};
 ghost use Rattle.rb_model.specs.Safe.{CheckpointIsSafe, KeepsSafe, LaterIsNotSafe, LinesKeepSafe, ToldIsSafe};
 
@@ -37,4 +39,11 @@ pub fn safe_laws()
     ensures call { KeepsSafe }
     ensures lines { LinesKeepSafe (outside_by (λ h blocks call snapshot lost. Unit {0})
         (λ m call answer m2. Unit {0})) }
+{}
+
+/// A read of one key is a fetch by a cursor over that key alone, and an upsert the insert or the update that its row
+/// asks for.
+pub fn key_laws()
+    ensures read { GetIsOneFetch }
+    ensures either { UpsertIsEither }
 {}

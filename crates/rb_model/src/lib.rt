@@ -1,6 +1,7 @@
 //! The abstract machine of numbered commits, in `specs/`, and the plain types of the engine's calls.
 #![tactic(auto)]
 
+mod activity;
 mod laws;
 mod marks;
 mod mode;
@@ -11,7 +12,8 @@ mod refusal;
 mod row;
 mod wrote;
 
-pub use laws::{book_laws, safe_laws};
+pub use activity::{Activity, Wait};
+pub use laws::{book_laws, key_laws, safe_laws};
 pub use marks::Marks;
 pub use mode::{Isolation, Mode};
 pub use name::Name;

@@ -1,4 +1,6 @@
 //! How a session's transaction reads. The engine's callers choose it, and the table of sessions keeps it.
+ghost use Rattle.std.specs.Prelude.{◌≡◌};
+
 use rb_base::Scn;
 
 /// What a session asks for as its transaction begins.
@@ -27,4 +29,19 @@ pub enum Isolation {
         /// The last commit number that the queries see.
         snapshot: Scn,
     },
+}
+
+impl Isolation {
+    ghost use Rattle.rb_model.specs.Isolation.{mode_of};
+
+    /// The mode that the transaction has asked for.
+    pub fn mode(self) -> Mode
+        ensures { result ≡ mode_of self }
+    {
+        match self {
+            Isolation::ReadCommitted => Mode::ReadCommitted,
+            Isolation::ReadOnly { .. } => Mode::ReadOnly,
+            Isolation::Serializable { .. } => Mode::Serializable,
+        }
+    }
 }

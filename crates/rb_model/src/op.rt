@@ -7,6 +7,8 @@ pub enum Op<'a> {
     Insert(&'a [u8]),
     /// Gives the key's row this value, of at most 80 bytes.
     Update(&'a [u8]),
+    /// Gives the key's row this value, of at most 80 bytes, or makes a row of it where the key has none.
+    Put(&'a [u8]),
     /// Takes the key's row away.
     Delete,
 }

@@ -1,4 +1,5 @@
 //! What a call of the engine answers, whichever call it is. The shell makes one of each result, and prints it.
+use crate::activity::Activity;
 use crate::refusal::Refusal;
 
 /// An answer, without the row that a fetch gives.
@@ -14,12 +15,18 @@ pub enum Outcome {
     Numbered { number: u64 },
     /// All commits are in the file, up to that of this number.
     Flushed { number: u64 },
-    /// A fetch gave the next row.
+    /// A fetch gave the next row, or a read of one key its row.
     Row,
     /// A fetch gave none: all rows were given before.
     End,
+    /// The key that was read has no row.
+    Absent,
     /// What a segment has made and given up.
     Marked { seg: u16, writes: u64, lost: u64 },
+    /// What a session has under way.
+    Shown { session: u16, activity: Activity },
+    /// A session has nothing under way.
+    Idle,
     /// It was refused.
     Refused { why: Refusal },
 }

@@ -1,4 +1,4 @@
-//! What a fetch gives. The engine fills it, and the shell prints it.
+//! What a fetch or a read of one key gives. The engine fills it, and the shell prints it.
 use arrayvec::ArrayVec;
 use rb_base::VALUE_BYTES;
 
@@ -9,11 +9,11 @@ pub struct Row {
     pub value: ArrayVec<u8, VALUE_BYTES>,
 }
 
-/// Whether a fetch gave a row.
+/// Whether a fetch, or a read of one key, gave a row.
 #[derive(Clone, Copy, Debug, PartialEq, Eq)]
 pub enum Fetched {
-    /// It gave the next row.
+    /// It gave the next row, or that of the key.
     Row,
-    /// All rows were given before.
+    /// All rows were given before, or the key has none.
     End,
 }

@@ -11,6 +11,8 @@ pub enum Cause {
     InUse,
     /// What the path names has no bytes of its own, as a folder, a fifo or a device.
     NotRegular,
+    /// The path names nothing.
+    Missing,
     /// The system's error.
     System(io::Error),
 }
@@ -48,6 +50,7 @@ impl Display for Cause {
         match self {
             Cause::InUse => f.write_str("in use by another run"),
             Cause::NotRegular => f.write_str("not a regular file"),
+            Cause::Missing => f.write_str("there is no file of this name"),
             Cause::System(error) => Display::fmt(error, f),
         }
     }

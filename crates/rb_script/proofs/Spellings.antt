@@ -1,6 +1,6 @@
 -- No two commands have one spelling, and what a line lacks that spells none.
 use Rattle.std.proofs.Common.{◌≡◌, ℕ, Bool, true, false, List, [], ◌∷◌, ◌++◌, length, map, refl, sym, ap, ◌∙◌, arith}
-use Rattle.rb_model.specs.Lines.{Command, Word, CommitWord, RollbackWord, MarksWord, FlushWord, CheckpointWord, word_text, word_of, fields_of, fields_text, spelling, IsCommand, SpellsNone}
+use Rattle.rb_model.specs.Lines.{Command, Word, CommitWord, RollbackWord, MarksWord, SessionsWord, FlushWord, CheckpointWord, word_text, word_of, fields_of, fields_text, spelling, IsCommand, SpellsNone}
 use Rattle.rb_script.specs.Words.{is_word, field_kind, NoFields}
 use Rattle.rb_script.proofs.Spaced.{is_tail, same_front}
 use Rattle.rb_script.proofs.Fields.{fields_tail, same_count, same_fields}
@@ -49,6 +49,7 @@ no_fields like rest one none c valid e =
 -- the word is a line without fields
 abbrev pub stands_alone : Word → Bool
 stands_alone MarksWord = true
+stands_alone SessionsWord = true
 stands_alone FlushWord = true
 stands_alone CheckpointWord = true
 stands_alone _ = false

@@ -2,7 +2,7 @@
 use Rattle.std.specs.Prelude.{◌≡◌, ◌≢◌, ℕ, Bool, true, false, not, ◌==◌, List, [], ◌∷◌, map}
 use Rattle.std.specs.List.{list_all, AllByRecursion}
 use Rattle.rb_model.specs.Lines.{Field, Id, Key, Count, Named, Valued, Moded, Later, IsField, fields_text}
-use Rattle.rb_model.specs.Lines.{Word, InsertWord, UpdateWord, DeleteWord, LockWord}
+use Rattle.rb_model.specs.Lines.{Word, InsertWord, UpdateWord, PutWord, DeleteWord, LockWord, GetWord}
 
 -- no byte is a space
 abbrev pub is_word : List ℕ → Bool
@@ -12,8 +12,10 @@ is_word text = list_all (λ b. not (b == 32)) text
 abbrev pub names_key : Word → Bool
 names_key InsertWord = true
 names_key UpdateWord = true
+names_key PutWord = true
 names_key DeleteWord = true
 names_key LockWord = true
+names_key GetWord = true
 names_key _ = false
 
 -- a field without what it holds
@@ -48,7 +50,7 @@ row_fields s t k value = Id s ∷ Id t ∷ Key k ∷ Valued value ∷ []
 abbrev pub row_kinds : List FieldKind
 row_kinds = IdKind ∷ IdKind ∷ KeyKind ∷ ValueKind ∷ []
 
--- the fields of a write that has none
+-- the fields of a write that has none, and of a read of one key
 abbrev pub key_fields : ℕ → ℕ → ℕ → List Field
 key_fields s t k = Id s ∷ Id t ∷ Key k ∷ []
 

@@ -12,6 +12,8 @@ pub enum Command<'a> {
     Session { s: u16, request: Request<'a> },
     /// `marks`: what each rollback segment has made and given up.
     Marks,
+    /// `sessions`: what each session has under way.
+    Sessions,
     /// `flush`.
     Flush,
     /// `checkpoint`.
@@ -22,7 +24,7 @@ pub enum Command<'a> {
 /// `t` is the number of a table; `k`, `lo` and `hi` are keys.
 #[derive(Debug, Drop)]
 pub enum Request<'a> {
-    /// `insert S T K V`, `update S T K V` or `delete S T K`.
+    /// `insert S T K V`, `update S T K V`, `put S T K V` or `delete S T K`.
     Write {
         t: u16,
         k: u64,
@@ -67,6 +69,11 @@ pub enum Request<'a> {
     CloseCursor {
         name: Name,
     },
+    /// `get S T K`.
+    Get {
+        t: u16,
+        k: u64,
+    },
     /// `cancel S`: the write with which the session waits is given up.
     Cancel,
 }
@@ -80,7 +87,7 @@ impl Command<'_> {
     {
         match self {
             Command::Session { s, request: _ } => Some(*s),
-            Command::Marks | Command::Flush | Command::Checkpoint => None,
+            Command::Marks | Command::Sessions | Command::Flush | Command::Checkpoint => None,
         }
     }
 }

@@ -85,6 +85,16 @@ fn update_of(fields: &[u8]) -> Option<(u16, Request<'_>)>
     Some((s, Request::Write { t, k, op }))
 }
 
+// What the line asks for that is `put`, a space and these fields
+fn put_of(fields: &[u8]) -> Option<(u16, Request<'_>)>
+    ensures found { IfSome result (λ p. Spells (codes "put" ++ 32 ∷ fields.now) (asked_by p.0 p.1)) }
+    ensures none { IfNone result (SpellsNone (codes "put" ++ 32 ∷ fields.now)) }
+{
+    let (s, t, k, value) = write_of(fields)?;
+    let op = Op::Put(value);
+    Some((s, Request::Write { t, k, op }))
+}
+
 // What the line asks for that is `delete`, a space and these fields
 fn delete_of(fields: &[u8]) -> Option<(u16, Request<'_>)>
     ensures found { IfSome result (λ p. Spells (codes "delete" ++ 32 ∷ fields.now) (asked_by p.0 p.1)) }
@@ -102,6 +112,15 @@ fn lock_of(fields: &[u8]) -> Option<(u16, Request<'_>)>
 {
     let (s, t, k) = key_of(fields)?;
     Some((s, Request::Lock { t, k }))
+}
+
+// What the line asks for that is `get`, a space and these fields
+fn get_of(fields: &[u8]) -> Option<(u16, Request<'_>)>
+    ensures found { IfSome result (λ p. Spells (codes "get" ++ 32 ∷ fields.now) (asked_by p.0 p.1)) }
+    ensures none { IfNone result (SpellsNone (codes "get" ++ 32 ∷ fields.now)) }
+{
+    let (s, t, k) = key_of(fields)?;
+    Some((s, Request::Get { t, k }))
 }
 
 // What the line asks for that is `commit`, a space and these fields
@@ -198,6 +217,9 @@ fn command_alone(word: &[u8]) -> Option<Command<'_>>
     if word == b"marks".as_slice() {
         return Some(Command::Marks);
     }
+    if word == b"sessions".as_slice() {
+        return Some(Command::Sessions);
+    }
     if word == b"flush".as_slice() {
         return Some(Command::Flush);
     }
@@ -253,11 +275,17 @@ fn request_of<'a>(word: &[u8], fields: &'a [u8]) -> Option<(u16, Request<'a>)>
     if word == b"update".as_slice() {
         return update_of(fields);
     }
+    if word == b"put".as_slice() {
+        return put_of(fields);
+    }
     if word == b"delete".as_slice() {
         return delete_of(fields);
     }
     if word == b"lock".as_slice() {
         return lock_of(fields);
+    }
+    if word == b"get".as_slice() {
+        return get_of(fields);
     }
     request_without_key(word, fields)
 }

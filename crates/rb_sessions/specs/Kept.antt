@@ -16,7 +16,7 @@ use Rattle.rb_sessions.specs.declared.row.SessionRow.{SessionRow}
 use Rattle.rb_sessions.specs.declared.named.Named.{Named}
 use Rattle.rb_sessions.specs.declared.pending.Pending.{Pending}
 use Rattle.rb_sessions.specs.declared.pending.PendingOp.{PendingOp}
-use Rattle.rb_sessions.specs.declared.pending.PendingOp.TheVariants.{Insert, Update, Delete, Lock}
+use Rattle.rb_sessions.specs.declared.pending.PendingOp.TheVariants.{Insert, Update, Put, Delete, Lock}
 use Rattle.rb_sessions.specs.declared.savepoint.Mark.{Mark}
 
 -- a cursor under its name
@@ -45,6 +45,7 @@ savepoint_view n = record { name = n.name.items; kept = n.value.kept }
 abbrev pub pending_action : PendingOp → Action
 pending_action (Insert value) = change.Insert value.items
 pending_action (Update value) = change.Update value.items
+pending_action (Put value) = change.Upsert value.items
 pending_action Delete = change.Delete
 pending_action Lock = change.Lock
 

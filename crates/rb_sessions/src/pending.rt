@@ -15,6 +15,8 @@ pub enum PendingOp {
     Insert(ArrayVec<u8, VALUE_BYTES>),
     /// Gives the key's row this value.
     Update(ArrayVec<u8, VALUE_BYTES>),
+    /// Gives the key's row this value, or makes a row of it where the key has none.
+    Put(ArrayVec<u8, VALUE_BYTES>),
     /// Takes the key's row away.
     Delete,
     /// Holds the key's row as it is.
@@ -38,6 +40,7 @@ fn kept_op(op: Option<Op<'_>>) -> PendingOp
     match op {
         Some(Op::Insert(value)) => PendingOp::Insert(array_of(value)),
         Some(Op::Update(value)) => PendingOp::Update(array_of(value)),
+        Some(Op::Put(value)) => PendingOp::Put(array_of(value)),
         Some(Op::Delete) => PendingOp::Delete,
         None => PendingOp::Lock,
     }
@@ -64,6 +67,7 @@ impl Pending {
         match &self.op {
             PendingOp::Insert(value) => Some(Op::Insert(value.as_slice())),
             PendingOp::Update(value) => Some(Op::Update(value.as_slice())),
+            PendingOp::Put(value) => Some(Op::Put(value.as_slice())),
             PendingOp::Delete => Some(Op::Delete),
             PendingOp::Lock => None,
         }

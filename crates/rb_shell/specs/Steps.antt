@@ -26,9 +26,12 @@ tells_fault (replies.Numbered s number) = false
 tells_fault (replies.Flushed number) = false
 tells_fault (replies.Row s key value) = false
 tells_fault (replies.End s) = false
+tells_fault (replies.Absent s) = false
 tells_fault (replies.Waits s on) = false
 tells_fault (replies.Refused s why) = is_disk_fault why
 tells_fault (replies.Marks seg writes lost) = false
+tells_fault (replies.Shown session activity) = false
+tells_fault replies.Nothing = false
 tells_fault replies.BadLine = false
 
 -- A text was added to what waits. It waits with it, or all that waited before was sent.

@@ -23,7 +23,7 @@ ghost use Rattle.rb_shell.specs.Steps.{Calls, IsSkipped, Lost, SaidAs};
 use crate::replies::{OWN_BYTES, Waiting, reply_of, send, tell};
 use arrayvec::ArrayVec;
 use rb_base::Store;
-use rb_calls::{answer, answer_ahead, calls_of, resume_ready};
+use rb_calls::{answer, answer_ahead, calls_of, goes_on, resume_ready};
 use rb_engine::{Ahead, Engine};
 use rb_lines::StepFault;
 use rb_model::{Name, Outcome, Row};
@@ -139,16 +139,15 @@ fn fetch_rows<T: Store, K: Sink>(
         Ahead::of_one()
     };
     for _k in 0..n {
-        match fetch_once(engine, s, name, &mut ahead, &mut row, waiting, sink)? {
-            Outcome::Row => {}
-            _ => return Ok(()),
+        let answer = fetch_once(engine, s, name, &mut ahead, &mut row, waiting, sink)?;
+        if !goes_on(answer) {
+            return Ok(());
         }
     }
     Ok(())
 }
 
-/// Makes a command's calls and tells their answers. They end at the first that is neither a row nor the marks of a
-/// segment.
+/// Makes a command's calls and tells their answers, up to the first after which it doesn't go on.
 fn make_calls<T: Store, K: Sink>(
     engine: &mut Engine<T>,
     command: &Command<'_>,
@@ -171,9 +170,9 @@ fn make_calls<T: Store, K: Sink>(
         value: ArrayVec::new(),
     };
     for k in 0..calls_of(command, engine.shape()) {
-        match call_once(engine, command, k, &mut row, waiting, sink)? {
-            Outcome::Row | Outcome::Marked { .. } => {}
-            _ => return Ok(()),
+        let answer = call_once(engine, command, k, &mut row, waiting, sink)?;
+        if !goes_on(answer) {
+            return Ok(());
         }
     }
     Ok(())
@@ -329,7 +328,8 @@ pub fn do_line<T: Store, K: Sink>(
 }
 
 /// Does one line of a script, which comes without its LF, and the writes that it has made ready, and puts the replies
-/// when all is done. Of a line of more than 512 bytes any 513 or more of its first bytes serve.
+/// when all is done. Of a line of more than 512 bytes any 513 or more of its first bytes serve. It is for who has one
+/// line: the program does the lines of a script by `do_line`, which has the same clauses.
 pub fn step<T: Store, K: Sink>(
     engine: &mut Engine<T>,
     line: &[u8],

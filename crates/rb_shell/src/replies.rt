@@ -71,6 +71,9 @@ pub fn reply_of(s: Option<u16>, answer: Outcome, row: &Row) -> Reply<'_>
             value: row.value.as_slice(),
         },
         (Outcome::End, Some(s)) => Reply::End { s },
+        (Outcome::Absent, Some(s)) => Reply::Absent { s },
+        (Outcome::Shown { session, activity }, None) => Reply::Shown { session, activity },
+        (Outcome::Idle, None) => Reply::Nothing,
         _ => unreachable!(),
     }
 }

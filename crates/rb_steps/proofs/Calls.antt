@@ -1,8 +1,8 @@
 -- What an attempt over a store tells of a write is the machine's answer, and its next state.
 use Rattle.std.proofs.Common.{◌≡◌, ◌<◌, ◌≤◌, ◌+◌, ◌*◌, ℕ, Bool, true, false, not, List, [], ◌∷◌, length, Result, Ok, Err, IfOk, IfErr, OnOk, refl, sym, ap, subst, arith}
-use Rattle.rb_write.specs.Asks.{IsWriterOf, adds_row, home_for, kind_of}
+use Rattle.rb_write.specs.Asks.{IsWriterOf, adds_for, home_for, kind_of}
 use Rattle.rb_write.specs.Making.{MakesIfAny}
-use Rattle.rb_write.specs.Refusals.{Refuses, TakesWrite, has_failed}
+use Rattle.rb_write.specs.Refusals.{Refuses, TakesAsk, has_failed}
 use Rattle.rb_write.specs.declared.ask.Ask.{Ask}
 use Rattle.rb_write.specs.declared.ask.AttemptFault.{AttemptFault}
 use Rattle.rb_base.specs.Blocks.{after_group, home_block, table_blocks}
@@ -15,7 +15,7 @@ use Rattle.rb_base.specs.declared.sizes.TheConstants.{SLOTS, WORN}
 use Rattle.rb_base.specs.declared.store.Store.{Ghosts}
 use Rattle.law_crash.specs.Made.{GivesOne, WriteMade}
 use Rattle.rb_model.specs.Change.{Kind}
-use Rattle.rb_model.specs.Calls.{Answer, Done, Refused, WritesIn, adds, first_of, write_tests}
+use Rattle.rb_model.specs.Calls.{Answer, Done, Refused, WritesIn, adds_now, first_of, write_tests}
 use Rattle.rb_model.specs.State.{State}
 use Rattle.rb_segment.specs.Header.{Header}
 use Rattle.law_blocks.specs.Standing.{homes_of, logged_of, segments_of}
@@ -24,7 +24,8 @@ use Rattle.rb_undoblock.specs.declared.record.UndoRecord.{UndoRecord}
 use Rattle.rb_steps.specs.StepLaws.{IsAsked}
 use Rattle.rb_model.specs.Answers.{action_by}
 use Rattle.rb_steps.specs.Steps.{IsAbout, MayWrite, refusal_of}
-use Rattle.rb_steps.proofs.Firsts.{adds_is, kind_is}
+use Rattle.rb_steps.proofs.Firsts.{kind_is}
+use Rattle.rb_steps.proofs.Found.{adds_same}
 use Rattle.rb_steps.proofs.Done.{answered, id_is, ids_are, stands}
 use Rattle.rb_steps.proofs.HomeWords.{which_in}
 use Rattle.rb_steps.proofs.Logged.{write_logged}
@@ -39,12 +40,12 @@ abbrev pub IsAskMade : Shape → List (List ℕ) → List (List ℕ) → Ask →
 IsAskMade shape before now ask x = (address : Uba) × (u : UndoRecord) × (ready : Header)
     × IsWriterOf shape before ask.own x ready × (u.table ≡ ask.table) × (u.key ≡ ask.key) × (u.wrap ≡ x.wrap)
     × (u.home ≡ home_block shape ask.table ask.key)
-    × IsWritten shape (SLOTS * x.seg + x.slot) (adds_row ask.op) (kind_of ask.op) address u before now
+    × IsWritten shape (SLOTS * x.seg + x.slot) (adds_for shape before ask) (kind_of ask.op) address u before now
 
 -- or refused
 abbrev pub IsAskRefused : Shape → List (List ℕ) → Ask → ℕ → AttemptFault → Type 0
 IsAskRefused shape before ask logged fault = (x : Xid) × (ready : Header) × IsWriterOf shape before ask.own x ready
-    × Refuses fault (home_for shape before ask) (adds_row ask.op) ask.key x ready logged
+    × Refuses fault (home_for shape before ask) (adds_for shape before ask) ask.key x ready logged
 
 module _ {S : Type 0} (store : Ghosts S) (told : store.tells) (old new : S) (h : State) (xids : List Xid) (s : ℕ) (ask : Ask) (about : IsAbout h xids s ask.own (store.blocks old)) (same : store.shape_of old ≡ h.shape) (first : 1 ≤ ask.table) (last : ask.table ≤ h.shape.tables) (mine : MayWrite h s ask.table ask.key) where
   abbrev Before : List (List ℕ)
@@ -63,7 +64,7 @@ module _ {S : Type 0} (store : Ghosts S) (told : store.tells) (old new : S) (h :
 
   -- blocks in which the write that was asked for is made, and which no test of it refused
   module _ (x : Xid) (now : List (List ℕ)) (s_in : s ≤ length h.sessions) (number : store.lsn old ≡ logged_of h.shape Before) (w : IsAskMade h.shape Before now ask x)
-      (takes : TakesWrite (home_for h.shape Before ask) (adds_row ask.op) ask.key) (young : store.lsn old < WORN) where
+      (takes : TakesAsk h.shape Before ask) (young : store.lsn old < WORN) where
     asked : IsAsked h ask x w.1
     asked = record { table = w.4; key = w.5; wrap = w.6; home = w.7 }
 
@@ -82,7 +83,7 @@ module _ {S : Type 0} (store : Ghosts S) (told : store.tells) (old new : S) (h :
     -- the write, as it is made
     pub write_made : WriteMade h xids s ask.table ask.key (action_by ask.op) x Before now
     write_made =
-        let more = write_logged h xids Before now (SLOTS * x.seg + x.slot) (adds_row ask.op) (kind_of ask.op) w.0 w.1 about.stand t_in home_in w.8 in
+        let more = write_logged h xids Before now (SLOTS * x.seg + x.slot) (adds_for h.shape Before ask) (kind_of ask.op) w.0 w.1 about.stand t_in home_in w.8 in
         record {
           in_slot = writers.writes_in h xids Before s ask.own about x w.2 w.3;
           granted = answered h xids Before now s ask about s_in first last mine x w.2 w.3 w.0 w.1 asked takes w.8 early;
@@ -90,15 +91,15 @@ module _ {S : Type 0} (store : Ghosts S) (told : store.tells) (old new : S) (h :
           last = more;
           ids = λ r t owns. ids_are h xids Before now s ask about s_in first last mine x w.2 w.3 w.0 w.1 asked takes w.8 early t owns.owner (owner_within h xids (segments_of h.shape Before) (homes_of h.shape Before) (stood_of h xids Before about.stand) t owns.owner owns.at) owns.at;
           id = id_is h xids Before now s ask about s_in first last mine x w.2 w.3 w.0 w.1 asked takes w.8 early;
-          tells = write_tells h xids Before now (SLOTS * x.seg + x.slot) (adds_row ask.op) (kind_of ask.op) w.0 w.1 about.stand t_in w.8;
+          tells = write_tells h xids Before now (SLOTS * x.seg + x.slot) (adds_for h.shape Before ask) (kind_of ask.op) w.0 w.1 about.stand t_in w.8;
           address = w.0;
           undo = w.1;
           of_table = w.4;
           of_key = w.5;
           of_home = w.7;
           group =
-              subst (λ (k : Kind). IsWritten h.shape (SLOTS * x.seg + x.slot) (adds (action_by ask.op)) k w.0 w.1 Before now) (sym (kind_is ask.op))
-              (subst (λ (b : Bool). IsWritten h.shape (SLOTS * x.seg + x.slot) b (kind_of ask.op) w.0 w.1 Before now) (sym (adds_is ask.op)) w.8);
+              subst (λ (k : Kind). IsWritten h.shape (SLOTS * x.seg + x.slot) (adds_now h s ask.table ask.key (action_by ask.op)) k w.0 w.1 Before now) (sym (kind_is ask.op))
+              (subst (λ (b : Bool). IsWritten h.shape (SLOTS * x.seg + x.slot) b (kind_of ask.op) w.0 w.1 Before now) (adds_same h xids Before s ask about first last mine) w.8);
         }
 
   -- what a group makes, where one is given
@@ -112,7 +113,7 @@ module _ {S : Type 0} (store : Ghosts S) (told : store.tells) (old new : S) (h :
 
   -- a write that is done
   done_one : (x : Xid) (patches : List Patch) → s ≤ length h.sessions → store.lsn old ≡ logged_of h.shape Before → Logs store old new (group_of patches) true
-      → IsAskMade h.shape Before Now ask x → TakesWrite (home_for h.shape Before ask) (adds_row ask.op) ask.key → store.lsn old < WORN
+      → IsAskMade h.shape Before Now ask x → TakesAsk h.shape Before ask → store.lsn old < WORN
       → GivesOne store old new true (λ now. WriteMade h xids s ask.table ask.key (action_by ask.op) x Before now)
   done_one x patches s_in number logs w takes young =
       let made = write_made x Now s_in number w takes young in
@@ -131,12 +132,12 @@ module _ {S : Type 0} (store : Ghosts S) (told : store.tells) (old new : S) (h :
       }
 
   pub done : (r : Result Xid AttemptFault) (patches : List Patch) → s ≤ length h.sessions → store.lsn old ≡ logged_of h.shape Before → Logs store old new (group_of patches) (not (has_failed r))
-      → IfOk r (IsAskMade (store.shape_of old) Before Now ask) → OnOk r (TakesWrite (home_for (store.shape_of old) Before ask) (adds_row ask.op) ask.key) → OnOk r (store.lsn old < WORN)
+      → IfOk r (IsAskMade (store.shape_of old) Before Now ask) → OnOk r (TakesAsk (store.shape_of old) Before ask) → OnOk r (store.lsn old < WORN)
       → IfOk r (λ x. GivesOne store old new true (λ now. WriteMade h xids s ask.table ask.key (action_by ask.op) x Before now))
   done (Ok x) patches s_in number logs made takes young =
       done_one x patches s_in number logs
       (subst (λ (k : Shape). IsAskMade k Before Now ask x) same made)
-      (subst (λ (k : Shape). TakesWrite (home_for k Before ask) (adds_row ask.op) ask.key) same takes)
+      (subst (λ (k : Shape). TakesAsk k Before ask) same takes)
       young
   done (Err fault) patches s_in number logs made takes young = tt
 

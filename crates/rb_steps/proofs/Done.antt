@@ -1,7 +1,7 @@
 -- A write that is done is one that no test refuses, and after it the blocks stand for the machine's next state.
 use Rattle.std.proofs.Common.{◌≡◌, inl, inr, ◌<◌, ◌≤◌, ◌+◌, ◌-◌, ◌*◌, ◌/◌, ◌%◌, ◌^◌, ◌==◌, ◌++◌, if◌then◌else◌, ℕ, Bool, true, false, List, [], ◌∷◌, length, set, Some, is_some, sym, ◌∙◌, ap, subst, arith}
-use Rattle.rb_write.specs.Asks.{IsWriterOf, adds_row, home_for, kind_of}
-use Rattle.rb_write.specs.Refusals.{TakesWrite}
+use Rattle.rb_write.specs.Asks.{IsWriterOf, adds_for, home_for, kind_of}
+use Rattle.rb_write.specs.Refusals.{TakesAsk}
 use Rattle.rb_write.specs.declared.ask.Ask.{Ask}
 use Rattle.rb_base.specs.Blocks.{block_of, table_blocks}
 use Rattle.rb_base.specs.declared.ids.Uba.{Uba}
@@ -58,8 +58,8 @@ has_place ready room (inr (e, may, is)) none =
     may.free (λ out. omega (arith, out, kept)) pinned.0 pinned.1 pinned.2
 
 module _ (h : State) (xids : List Xid) (before now : List (List ℕ)) (s : ℕ) (ask : Ask) (about : IsAbout h xids s ask.own before) (s_in : s ≤ length h.sessions) (first : 1 ≤ ask.table) (last : ask.table ≤ h.shape.tables) (mine : MayWrite h s ask.table ask.key)
-    (x : Xid) (ready : Header) (writer : IsWriterOf h.shape before ask.own x ready) (address : Uba) (u : UndoRecord) (asked : IsAsked h ask x u) (takes : TakesWrite (home_for h.shape before ask) (adds_row ask.op) ask.key)
-    (is : IsWritten h.shape (SLOTS * x.seg + x.slot) (adds_row ask.op) (kind_of ask.op) address u before now) (young : logged_of h.shape before < WORN) where
+    (x : Xid) (ready : Header) (writer : IsWriterOf h.shape before ask.own x ready) (address : Uba) (u : UndoRecord) (asked : IsAsked h ask x u) (takes : TakesAsk h.shape before ask)
+    (is : IsWritten h.shape (SLOTS * x.seg + x.slot) (adds_for h.shape before ask) (kind_of ask.op) address u before now) (young : logged_of h.shape before < WORN) where
   abbrev At : ℕ
   At = SLOTS * x.seg + x.slot
 
@@ -165,7 +165,7 @@ module _ (h : State) (xids : List Xid) (before now : List (List ℕ)) (s : ℕ) 
 
   pub stands : BlocksStand (written h s x.seg x.slot Made) xids now
   stands = subst (λ (z : State). BlocksStand z xids now) next_is
-      (write_keeps_machine h xids before now s At (adds_row ask.op) Made (kind_of ask.op) address u (let g = g_in in let i = i_few in omega (arith, g, i)) (about.session, s_in) about.stand
+      (write_keeps_machine h xids before now s At (adds_for h.shape before ask) Made (kind_of ask.op) address u (let g = g_in in let i = i_few in omega (arith, g, i)) (about.session, s_in) about.stand
       (writers.takes_at h xids before s ask.own about x ready writer) home_in not_held is same_change has_room)
 
   t_in : At < SLOTS * h.shape.segments
@@ -176,14 +176,14 @@ module _ (h : State) (xids : List Xid) (before now : List (List ℕ)) (s : ℕ) 
 
   owns : Owns Next s At
   owns = subst (λ (z : State). Owns z s At) next_is
-      (owns_after h xids before now s At (adds_row ask.op) Made (kind_of ask.op) address u t_in (about.session, s_in) about.stand
+      (owns_after h xids before now s At (adds_for h.shape before ask) Made (kind_of ask.op) address u t_in (about.session, s_in) about.stand
       (writers.takes_at h xids before s ask.own about x ready writer) home_in not_held is same_change has_room)
 
   -- the session's id is the transaction's
   pub id_is : IsOwnId Next (env_of h.shape now) s (Some x)
   id_is =
       let here : (env_of h.shape now).xid At ≡ x =
-      id_after h xids before now s At (adds_row ask.op) Made (kind_of ask.op) address u t_in (about.session, s_in) about.stand
+      id_after h xids before now s At (adds_for h.shape before ask) Made (kind_of ask.op) address u t_in (about.session, s_in) about.stand
       (writers.takes_at h xids before s ask.own about x ready writer) home_in not_held is same_change has_room ∙ sym xid_is in
       record {
         owns = λ t o. let one : At ≡ t = stands.tell.one_slot s At t owns o in sym (ap (λ (z : ℕ). Some ((env_of h.shape now).xid z)) (sym one) ∙ ap Some here);
@@ -192,5 +192,5 @@ module _ (h : State) (xids : List Xid) (before now : List (List ℕ)) (s : ℕ) 
 
   -- and each slot that was owned keeps its own
   pub ids_are : (v : ℕ) (o : Owner) → v < SLOTS * h.shape.segments → owner_at h v ≡ Some o → (env_of h.shape now).xid v ≡ (env_of h.shape before).xid v
-  ids_are = ids_after h xids before now s At (adds_row ask.op) Made (kind_of ask.op) address u t_in (about.session, s_in) about.stand
+  ids_are = ids_after h xids before now s At (adds_for h.shape before ask) Made (kind_of ask.op) address u t_in (about.session, s_in) about.stand
       (writers.takes_at h xids before s ask.own about x ready writer) home_in not_held is same_change has_room

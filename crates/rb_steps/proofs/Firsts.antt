@@ -12,25 +12,27 @@ use Rattle.rb_model.specs.Full.{full_block}
 use Rattle.rb_model.specs.Queue.{Waiter}
 use Rattle.rb_model.specs.State.{State, isolation_of}
 use Rattle.rb_model.specs.NextState.{kind_by}
-use Rattle.rb_model.specs.Calls.{adds, rows_now}
+use Rattle.rb_model.specs.Calls.{adds, adds_now, rows_now}
 use Rattle.rb_model.specs.Rows.{has_row}
 use Rattle.rb_model.specs.Tests.{full_slots, holder, made_since}
 use Rattle.rb_model.specs.declared.op.Op.{Op}
-use Rattle.rb_model.specs.declared.op.Op.TheVariants.{Insert, Update, Delete}
+use Rattle.rb_model.specs.declared.op.Op.TheVariants.{Insert, Update, Put, Delete}
 use Rattle.rb_model.specs.Answers.{action_by}
 use Rattle.law_write.specs.Verdict as verdict
 use Rattle.law_write.specs.Verdict.{Verdict, tested}
 
 -- an operation, or the lock without one, adds a row or not, and is of a kind, in both words
-pub adds_is : (op : Option Op) → adds (action_by op) ≡ adds_row op
-adds_is (Some (Insert value)) = refl
-adds_is (Some (Update value)) = refl
-adds_is (Some Delete) = refl
-adds_is None = refl
+pub adds_is : (op : Option Op) (present : Bool) → adds (action_by op) present ≡ adds_row op present
+adds_is (Some (Insert value)) present = refl
+adds_is (Some (Update value)) present = refl
+adds_is (Some (Put value)) present = refl
+adds_is (Some Delete) present = refl
+adds_is None present = refl
 
 pub kind_is : (op : Option Op) → kind_by (action_by op) ≡ kind_of op
 kind_is (Some (Insert value)) = refl
 kind_is (Some (Update value)) = refl
+kind_is (Some (Put value)) = refl
 kind_is (Some Delete) = refl
 kind_is None = refl
 
@@ -72,9 +74,9 @@ log_tests logged = (nat_le WORN logged, Refused refusals.WornOut) ∷ []
 -- the tests of a write that waits for nobody and doesn't come too late
 abbrev pub row_tests : State → (logged g i s table key : ℕ) → Action → List (Bool × Answer)
 row_tests h logged g i s table key action =
-    (adds action && has_row table key (rows_now h s), Refused refusals.Duplicate)
-    ∷ (not (adds action) && not (has_row table key (rows_now h s)), Refused refusals.NotFound)
-    ∷ (adds action && full_block h table key, Refused refusals.BlockFull)
+    (adds_now h s table key action && has_row table key (rows_now h s), Refused refusals.Duplicate)
+    ∷ (not (adds_now h s table key action) && not (has_row table key (rows_now h s)), Refused refusals.NotFound)
+    ∷ (adds_now h s table key action && full_block h table key, Refused refusals.BlockFull)
     ∷ (full_slots h s table key, Refused refusals.SlotsFull)
     ∷ (is_full (book_at h.books g), Refused (refusals.RollbackFull g (made_since (book_at h.books g))))
     ∷ log_tests logged
@@ -93,7 +95,7 @@ first_serial h logged g i s table key action own =
 module _ (h : State) (s table key g i : ℕ) (op : Option Op) where
   -- what the tests before the log find
   abbrev pub Found : Verdict
-  Found = tested (adds_row op) (has_row table key (rows_now h s)) (full_block h table key) (full_slots h s table key) (is_full (book_at h.books g))
+  Found = tested (adds_now h s table key (action_by op)) (has_row table key (rows_now h s)) (full_block h table key) (full_slots h s table key) (is_full (book_at h.books g))
 
   pub first_found : (logged : ℕ) → ((u : ℕ) → holder h table key ≡ Some u → u ≡ s) → serial_tests h.commits (isolation_of h s) table key ≡ []
       → first_of (write_tests h logged g i s table key (action_by op)) Done
@@ -101,5 +103,4 @@ module _ (h : State) (s table key g i : ℕ) (op : Option Op) where
   first_found logged own timely =
       first_serial h logged g i s table key (action_by op) own
       ∙ (ap (λ (l : List (Bool × Answer)). first_of (l ++ row_tests h logged g i s table key (action_by op)) Done) timely
-      ∙ (first_tested (adds (action_by op)) (has_row table key (rows_now h s)) (full_block h table key) (full_slots h s table key) (is_full (book_at h.books g)) g (made_since (book_at h.books g)) (log_tests logged)
-      ∙ ap (λ a. answer_of (tested a (has_row table key (rows_now h s)) (full_block h table key) (full_slots h s table key) (is_full (book_at h.books g))) g (made_since (book_at h.books g)) (first_of (log_tests logged) Done)) (adds_is op)))
+      ∙ first_tested (adds_now h s table key (action_by op)) (has_row table key (rows_now h s)) (full_block h table key) (full_slots h s table key) (is_full (book_at h.books g)) g (made_since (book_at h.books g)) (log_tests logged))

@@ -3,7 +3,9 @@ use Rattle.std.proofs.Common.{◌≡◌, ◌≢◌, ◌⊎◌, inl, inr, ◌<◌
 use Rattle.std.proofs.Math.ListN as lists
 use Rattle.std.proofs.lemmas.Bool.{and_from, and_parts, cases_Bool, cases_lt, cond-true, cond-false, eq-eqb, eqb-true, false≢true}
 use Rattle.std.proofs.lemmas.List.{length-map}
+use Rattle.rb_write.specs.Asks.{shows_row}
 use Rattle.rb_write.specs.Refusals.{HasNoCell, HasNoRow, HasRow}
+use Rattle.rb_write.proofs.Rows.{row_or_none}
 use Rattle.rb_base.specs.Blocks.{block_of, home_block, table_blocks}
 use Rattle.rb_base.specs.declared.ids.Xid.{Xid}
 use Rattle.rb_cell.specs.declared.cell.Cell as cells
@@ -150,6 +152,13 @@ module _ (h : State) (xids : List Xid) (blocks : List (List ℕ)) (stand : Block
           let keyed = row_keyed key (home_cell Cleaned f.0) row.0 row.1 in
           absurd (none f.0 (keyed_first f.0 (keyed_within f.0 keyed) keyed) row.0)
       | inr not_is ↦ not_is
+    ]
+
+    -- so its home and the machine agree of the key
+    pub shows_is : shows_row Cleaned key ≡ has_row table key (rows_now h s)
+    shows_is = elim (row_or_none Cleaned key sixteen) [
+      | inl some ↦ some.0 ∙ sym (row_there some.1)
+      | inr none ↦ none.0 ∙ sym (no_row none.1)
     ]
 
   -- all cells are taken by other keys where none has the key and none is free

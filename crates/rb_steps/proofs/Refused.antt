@@ -1,7 +1,7 @@
 -- A refusal is the first of the machine's tests that applies, and none applies to a write that is taken.
 use Rattle.std.proofs.Common.{◌≡◌, ◌<◌, ◌≤◌, ℕ, true, false, List, nat_le, refl, sym, ◌∙◌, ap, arith}
 use Rattle.std.proofs.lemmas.Bool.Decides.{nat_tests}
-use Rattle.rb_write.specs.Asks.{IsWriterOf, home_for}
+use Rattle.rb_write.specs.Asks.{IsWriterOf, adds_for, home_for}
 use Rattle.rb_write.specs.Refusals.{Refuses, TakesWriter}
 use Rattle.rb_write.specs.declared.ask.Ask.{Ask}
 use Rattle.rb_write.specs.declared.ask.AttemptFault.{AttemptFault}
@@ -48,7 +48,7 @@ module _ (h : State) (xids : List Xid) (blocks : List (List ℕ)) (s logged : �
   answered : (v : Verdict) → Found ≡ v → First ≡ answer_of v x.seg Since Log
   answered v is = first_found h s ask.table ask.key x.seg x.slot ask.op logged mine.0 mine.1 ∙ ap (λ (z : Verdict). answer_of z x.seg Since Log) is
 
-  pub refused : (fault : AttemptFault) → Refuses fault (home_for h.shape blocks ask) (found.Adds h xids blocks s ask about first last mine x ready writer) ask.key x ready logged
+  pub refused : (fault : AttemptFault) → Refuses fault (home_for h.shape blocks ask) (adds_for h.shape blocks ask) ask.key x ready logged
       → First ≡ Refused (refusal_of fault)
   refused faults.Failed never = absurd never
   refused faults.Duplicate why = answered verdict.Duplicate (found.duplicate h xids blocks s ask about first last mine x ready writer why.0 why.1)
@@ -63,5 +63,5 @@ module _ (h : State) (xids : List Xid) (blocks : List (List ℕ)) (s logged : �
       answered verdict.Fine (found.fine h xids blocks s ask about first last mine x ready writer why.0 why.1) ∙ worn_out logged why.2
 
   -- no test applies to a write that the home, the segment and the log take
-  pub not_refused : TakesWriter (home_for h.shape blocks ask) (found.Adds h xids blocks s ask about first last mine x ready writer) ask.key x → ¬ NoneMayTurn ready → logged < WORN → First ≡ Done
+  pub not_refused : TakesWriter (home_for h.shape blocks ask) (adds_for h.shape blocks ask) ask.key x → ¬ NoneMayTurn ready → logged < WORN → First ≡ Done
   not_refused takes some young = answered verdict.Fine (found.fine h xids blocks s ask about first last mine x ready writer takes some) ∙ log_fine logged young

@@ -2,9 +2,9 @@
 -- one that no test refuses, after which the blocks stand for the machine's next state. Who holds a key is who does in
 -- the machine, and a session that is about to write has a place for it.
 use Rattle.std.specs.Prelude.{◌≡◌, ◌<◌, ◌≤◌, ◌+◌, ◌*◌, ℕ, List, length, Option}
-use Rattle.rb_write.specs.Asks.{adds_row, home_for, kind_of, IsWriterOf}
+use Rattle.rb_write.specs.Asks.{adds_for, home_for, kind_of, IsWriterOf}
 use Rattle.rb_write.specs.Holding.{holder_in}
-use Rattle.rb_write.specs.Refusals.{Refuses, TakesWrite}
+use Rattle.rb_write.specs.Refusals.{Refuses, TakesAsk}
 use Rattle.rb_write.specs.declared.ask.Ask.{Ask}
 use Rattle.rb_write.specs.declared.ask.AttemptFault.{AttemptFault}
 use Rattle.rb_base.specs.Blocks.{home_block}
@@ -36,7 +36,7 @@ RefusedAsMachine = (h : State) (xids : List Xid) (blocks : List (List ℕ)) (s l
     (ready : Header) (fault : AttemptFault)
     → IsAbout h xids s ask.own blocks → 1 ≤ ask.table → ask.table ≤ h.shape.tables
     → MayWrite h s ask.table ask.key → IsWriterOf h.shape blocks ask.own x ready
-    → Refuses fault (home_for h.shape blocks ask) (adds_row ask.op) ask.key x ready logged
+    → Refuses fault (home_for h.shape blocks ask) (adds_for h.shape blocks ask) ask.key x ready logged
     → WritesIn h s x.seg x.slot
     × (first_of (write_tests h logged x.seg x.slot s ask.table ask.key (action_by ask.op)) Done
     ≡ Refused (refusal_of fault))
@@ -47,8 +47,8 @@ DoneAsMachine = (h : State) (xids : List Xid) (before now : List (List ℕ)) (s 
     (ready : Header) (address : Uba) (u : UndoRecord)
     → IsAbout h xids s ask.own before → s ≤ length h.sessions → 1 ≤ ask.table
     → ask.table ≤ h.shape.tables → MayWrite h s ask.table ask.key → IsWriterOf h.shape before ask.own x ready
-    → IsAsked h ask x u → TakesWrite (home_for h.shape before ask) (adds_row ask.op) ask.key
-    → IsWritten h.shape (16 * x.seg + x.slot) (adds_row ask.op) (kind_of ask.op) address u before now
+    → IsAsked h ask x u → TakesAsk h.shape before ask
+    → IsWritten h.shape (16 * x.seg + x.slot) (adds_for h.shape before ask) (kind_of ask.op) address u before now
     → logged_of h.shape before < WORN
     → WritesIn h s x.seg x.slot
     × (first_of (write_tests h (logged_of h.shape before) x.seg x.slot s ask.table ask.key (action_by ask.op))

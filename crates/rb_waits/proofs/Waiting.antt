@@ -6,7 +6,7 @@ use Rattle.std.proofs.lemmas.List.Edits.{map_over_more}
 use Rattle.std.specs.List.{find, list_any}
 use Rattle.std.specs.Option.{is_none, option_eq, option_map}
 use denote.Ref.{Bor}
-use Rattle.rb_model.specs.Queue.{Waiter, first_ready, freed_by, is_queued, is_some_that, left_by, waits_for}
+use Rattle.rb_model.specs.Queue.{Waiter, first_ready, freed_by, is_queued, is_some_that, left_by, place_of, waits_for}
 use Rattle.rb_waits.specs.declared.waits.Waiter as code
 use Rattle.rb_waits.specs.Waiters.{waiter_view}
 
@@ -19,6 +19,18 @@ on_of (Some w) = w.on
 abbrev session_of : Option code.Waiter → Option ℕ
 session_of None = None
 session_of (Some w) = Some w.session
+
+-- its place in the queue
+abbrev pub place_by : Option code.Waiter → Option (Option ℕ)
+place_by None = None
+place_by (Some w) = Some w.on
+
+place_first : (s : ℕ) (waiters : List code.Waiter) → place_by (find (λ w. w.session == s) waiters) ≡ place_of s (map waiter_view waiters)
+place_first s [] = refl
+place_first s (w ∷ waiters) = ⊎_elim
+    (λ (yes : (w.session == s) ≡ true). rw yes refl)
+    (λ (no : (w.session == s) ≡ false). rw no (place_first s waiters))
+    (cases_Bool (w.session == s))
 
 waits_first : (s : ℕ) (waiters : List code.Waiter) → on_of (find (λ w. w.session == s) waiters) ≡ waits_for s (map waiter_view waiters)
 waits_first s [] = refl
@@ -38,6 +50,10 @@ ready_first (w ∷ waiters) = ⊎_elim
 pub waits_found : (s : ℕ) (waiters : List code.Waiter) (r o : Option (Bor code.Waiter)) → option_map (λ w. w.now) r ≡ find (λ w. w.session == s) waiters → r ≡ o
     → on_of (option_map (λ w. w.now) o) ≡ waits_for s (map waiter_view waiters)
 waits_found s waiters r o found is = ap (λ (x : Option (Bor code.Waiter)). on_of (option_map (λ w. w.now) x)) (sym is) ∙ ap on_of found ∙ waits_first s waiters
+
+pub place_found : (s : ℕ) (waiters : List code.Waiter) (r o : Option (Bor code.Waiter)) → option_map (λ w. w.now) r ≡ find (λ w. w.session == s) waiters → r ≡ o
+    → place_by (option_map (λ w. w.now) o) ≡ place_of s (map waiter_view waiters)
+place_found s waiters r o found is = ap (λ (x : Option (Bor code.Waiter)). place_by (option_map (λ w. w.now) x)) (sym is) ∙ ap place_by found ∙ place_first s waiters
 
 pub ready_found : (waiters : List code.Waiter) (r o : Option (Bor code.Waiter)) → option_map (λ w. w.now) r ≡ find (λ w. is_none w.on) waiters → r ≡ o
     → session_of (option_map (λ w. w.now) o) ≡ first_ready (map waiter_view waiters)

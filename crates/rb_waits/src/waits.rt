@@ -1,11 +1,13 @@
 //! The queue itself, and the test whether a wait would close a ring. It is for the engine.
 ghost use Rattle.std.specs.Prelude.{◌≡◌, ◌↔◌, ◌<◌, IsTrue, length, []};
+ghost use Rattle.rb_model.specs.Calls.{wait_by};
 ghost use Rattle.rb_model.specs.Queue as queue;
 ghost use Rattle.rb_model.specs.Queue.{Reaches};
 ghost use Rattle.rb_waits.specs.Waiters.{waiter_view};
 ghost use Rattle.std.specs.Prelude.{map};
 
 use arrayvec::ArrayVec;
+use rb_model::Wait;
 use std::marker::Model;
 
 /// The most sessions in the queue.
@@ -25,6 +27,19 @@ fn waits_for(waiters: &[Waiter], s: u16) -> Option<u16>
 {
     let waiter = waiters.iter().find(|waiter| waiter.session == s)?;
     waiter.on
+}
+
+/// How a session waits, by its place.
+fn wait_of(waiters: &[Waiter], s: u16) -> Wait
+    ensures { result ≡ wait_by (queue.place_of s (map waiter_view waiters.now)) }
+{
+    let Some(waiter) = waiters.iter().find(|waiter| waiter.session == s) else {
+        return Wait::Free;
+    };
+    match waiter.on {
+        Some(session) => Wait::On { session },
+        None => Wait::Ready,
+    }
 }
 
 /// Those that wait for session `u` are ready.
@@ -73,6 +88,13 @@ impl Waits {
             .as_slice()
             .iter()
             .any(|waiter| waiter.session == s)
+    }
+
+    /// How session `s` waits.
+    pub fn wait_of(&self, s: u16) -> Wait
+        ensures { result ≡ wait_by (queue.place_of s self.now) }
+    {
+        wait_of(self.queue.as_slice(), s)
     }
 
     /// Whether a ring is closed where session `s` waits for `u`: following "waits for" from `u` reaches `s`.

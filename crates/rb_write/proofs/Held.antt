@@ -40,13 +40,13 @@ then_open entry = by (entry.kind == OPEN)
     by false = refl
 
 -- the first that passes is found, and none where none does
-find_first : {X : Type 0} (p : X → Bool) (xs : List X) (c : ℕ) (d : X) → c < length xs → p (get_or xs c d) ≡ true → ((k : ℕ) → k < c → p (get_or xs k d) ≡ false) → find p xs ≡ Some (get_or xs c d)
+pub find_first : {X : Type 0} (p : X → Bool) (xs : List X) (c : ℕ) (d : X) → c < length xs → p (get_or xs c d) ≡ true → ((k : ℕ) → k < c → p (get_or xs k d) ≡ false) → find p xs ≡ Some (get_or xs c d)
 find_first p [] c d within is lower = absurd (omega (arith, within))
 find_first p (x ∷ xs) zero d within is lower = cond-true (p x) (Some x) (find p xs) is
 find_first p (x ∷ xs) (suc c) d within is lower =
     cond-false (p x) (Some x) (find p xs) (lower 0 (omega arith)) ∙ find_first p xs c d (omega (arith, within)) is (λ k lt. lower (suc k) (omega (arith, lt)))
 
-find_nowhere : {X : Type 0} (p : X → Bool) (xs : List X) (d : X) → ((k : ℕ) → k < length xs → p (get_or xs k d) ≡ false) → find p xs ≡ None
+pub find_nowhere : {X : Type 0} (p : X → Bool) (xs : List X) (d : X) → ((k : ℕ) → k < length xs → p (get_or xs k d) ≡ false) → find p xs ≡ None
 find_nowhere p [] d none = refl
 find_nowhere p (x ∷ xs) d none = cond-false (p x) (Some x) (find p xs) (none 0 (omega arith)) ∙ find_nowhere p xs d (λ k lt. none (suc k) (omega (arith, lt)))
 

@@ -5,3 +5,4 @@ pub mod Headers
 pub mod Held
 pub mod Causes
 pub mod Written
+pub mod Rows

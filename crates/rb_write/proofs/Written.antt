@@ -1,5 +1,5 @@
 -- What the group of a write makes of the blocks of a file.
-use Rattle.std.proofs.Common.{◌-◌, ◌≡◌, ◌≢◌, ◌⊎◌, ℕ, ◌+◌, ◌*◌, ◌/◌, ◌%◌, ◌<◌, ◌≤◌, ◌==◌, true, false, List, [], ◌∷◌, ◌++◌, length, take, drop, refl, arith, append_assoc, ap, sym, subst, ◌∙◌, inl, inr, Option, None, Some}
+use Rattle.std.proofs.Common.{◌-◌, ◌≡◌, ◌≢◌, ◌⊎◌, ℕ, ◌+◌, ◌*◌, ◌/◌, ◌%◌, ◌<◌, ◌≤◌, ◌==◌, Bool, true, false, List, [], ◌∷◌, ◌++◌, length, take, drop, refl, arith, append_assoc, ap, sym, subst, ◌∙◌, inl, inr, Option, None, Some}
 use Rattle.std.proofs.lemmas.Bool.{eq-eqb, ne_eqb}
 use Rattle.std.proofs.lemmas.List.{drop-drop, drop-take, length-append}
 use Rattle.std.specs.List.{AllByRecursion}
@@ -36,7 +36,7 @@ use Rattle.rb_itl.specs.Entries.{free_entry, with_entry}
 use Rattle.rb_itl.specs.declared.slots.Entry.{Entry}
 use Rattle.rb_model.specs.Change.{Held}
 use Rattle.rb_model.specs.declared.op.Op.{Op}
-use Rattle.rb_model.specs.declared.op.Op.TheVariants.{Insert, Update, Delete}
+use Rattle.rb_model.specs.declared.op.Op.TheVariants.{Insert, Update, Put, Delete}
 use Rattle.rb_segment.proofs.HeaderAfter.{header_after}
 use Rattle.rb_segment.specs.Calls.{AddedAs, HasTurned, IsYoungAt, Runs, record_patches}
 use Rattle.rb_segment.specs.Header.{Header, header_of}
@@ -46,7 +46,7 @@ use Rattle.rb_undoblock.proofs.Places.{others_kept, own_read}
 use Rattle.rb_undoblock.specs.Undo.{undo_at, undo_of, with_undo}
 use Rattle.rb_undoblock.specs.declared.record.UndoRecord.{UndoRecord}
 use Rattle.rb_write.proofs.Headers.{room_is}
-use Rattle.rb_write.specs.Asks.{adds_row, header_in, kind_of}
+use Rattle.rb_write.specs.Asks.{adds_for, adds_in, adds_row, header_in, kind_of, shows_row}
 use Rattle.rb_write.specs.Making.{Changes, IsUndoOf}
 use Rattle.rb_write.specs.declared.ask.Ask.{Ask}
 use Rattle.rb_write.specs.declared.home.Place.{Place}
@@ -88,7 +88,7 @@ pub record Prepared (shape : Shape) (blocks : List (List ℕ)) (ask : Ask) (p : 
   pub header2 : List ℕ
   pub changes : Changes shape ask x p copy header header2 (cleaning ++ taking) group
   pub choice : IsEntryChoice (home_entry (home_of copy)) x p.entry
-  pub place : IsCellChoice (home_of copy) (adds_row ask.op) ask.key p.cell
+  pub place : IsCellChoice (home_of copy) (adds_in (home_of copy) ask) ask.key p.cell
 
 -- An undo record is read behind the head alone.
 undo_same : (one other : List ℕ) (r : ℕ) → behind_head one ≡ behind_head other → undo_at one r ≡ undo_at other r
@@ -117,19 +117,20 @@ turn_place block h room before few turned = elim turned [
 ]
 
 -- what holds a row as it is adds none
-held_adds_none : (op : Option Op) → kind_of op ≡ Held → adds_row op ≡ false
-held_adds_none (Some (Insert value)) is = absurd cc
-held_adds_none (Some (Update value)) is = refl
-held_adds_none (Some Delete) is = refl
-held_adds_none None is = refl
+held_adds_none : (op : Option Op) (present : Bool) → kind_of op ≡ Held → adds_row op present ≡ false
+held_adds_none (Some (Insert value)) present is = absurd cc
+held_adds_none (Some (Update value)) present is = refl
+held_adds_none (Some (Put value)) present is = absurd cc
+held_adds_none (Some Delete) present is = refl
+held_adds_none None present is = refl
 
 -- what the record keeps, of the copy that the change finds
 module _ (copy : List ℕ) (h : Header) (ask : Ask) (x : Xid) (p : Place) (u : UndoRecord) (of : IsUndoOf copy h ask x p u) where
-  keeps_copy : (block : List ℕ) → p.entry < ENTRIES → p.cell < CELLS → IsEntryChoice (home_entry (home_of copy)) x p.entry → IsCellChoice (home_of copy) (adds_row ask.op) ask.key p.cell
-      → value_length copy p.cell ≡ value_length block p.cell → KeepsHome (home_of copy) block x (adds_row ask.op) (kind_of ask.op) u
+  keeps_copy : (block : List ℕ) → p.entry < ENTRIES → p.cell < CELLS → IsEntryChoice (home_entry (home_of copy)) x p.entry → IsCellChoice (home_of copy) (adds_in (home_of copy) ask) ask.key p.cell
+      → value_length copy p.cell ≡ value_length block p.cell → KeepsHome (home_of copy) block x (adds_in (home_of copy) ask) (kind_of ask.op) u
   keeps_copy block few fewer choice place same = record {
     sort = of.sort;
-    held = held_adds_none ask.op;
+    held = held_adds_none ask.op (shows_row (home_of copy) ask.key);
     entry = rw of.entry choice;
     cell = rw (of.key, of.cell) place;
     entry_before = rw (of.entry_before, of.entry) (sym (entry_read copy p.entry free_entry few));
@@ -275,7 +276,7 @@ module _ (shape : Shape) (blocks : List (List ℕ)) (ask : Ask) (p : Place) (gro
       let less = short_cell pr.copy p.cell cell pr.long pr.cell pr.changes.cell_sound (λ k k_in. let same = cleaned k in let s = short k k_in in omega (arith, same, s)) c few in
       omega (arith, after, entry, less)
 
-  keeps : KeepsHome (home_of pr.copy) (block_of blocks p.block) x (adds_row ask.op) (kind_of ask.op) u
+  keeps : KeepsHome (home_of pr.copy) (block_of blocks p.block) x (adds_in (home_of pr.copy) ask) (kind_of ask.op) u
   keeps =
       let same = ap (λ (l : List ℕ). value_length l p.cell) pr.copied ∙ length_cleaned p.block pr.cleaning (block_of blocks p.block) p.cell (block_long shape blocks p.block pr.are in_file) pr.cleans in
       keeps_copy pr.copy (header_of pr.header) ask x p u pr.changes.undo_of (block_of blocks p.block) pr.entry pr.cell pr.choice pr.place same
@@ -337,7 +338,7 @@ module _ (shape : Shape) (blocks : List (List ℕ)) (ask : Ask) (p : Place) (gro
 
 -- So the transaction of slot t has made the write.
 written : (shape : Shape) (blocks : List (List ℕ)) (ask : Ask) (p : Place) (group : List Patch) (t w : ℕ) (pr : Prepared shape blocks ask p group (record { seg = t / SLOTS; slot = t % SLOTS; wrap = w }))
-    → IsWritten shape t (adds_row ask.op) (kind_of ask.op) pr.changes.address pr.changes.undo blocks (after_group (logged_of shape blocks + 1) group blocks)
+    → IsWritten shape t (adds_for shape blocks ask) (kind_of ask.op) pr.changes.address pr.changes.undo blocks (after_group (logged_of shape blocks + 1) group blocks)
 unfolding recorded
 written shape blocks ask p group t w pr =
     let x : Xid = record { seg = t / SLOTS; slot = t % SLOTS; wrap = w } in
@@ -358,8 +359,9 @@ written shape blocks ask p group t w pr =
         only = subst (λ (b : ℕ). AllByRecursion (λ (q : Patch). (q.block ≡ b) ⊎ (q.block ≡ header_block shape (t / SLOTS)) ⊎ (q.block ≡ a.block)) group) at (only shape blocks ask p group x number pr);
         made = refl;
       };
-      keeps = subst (λ (b : ℕ). KeepsHome (cleaned_home look (home_of (block_of blocks b))) (block_of blocks b) x (adds_row ask.op) (kind_of ask.op) u) at
-          (subst (λ (h : Home). KeepsHome h (block_of blocks p.block) x (adds_row ask.op) (kind_of ask.op) u) pr.cleaned (keeps shape blocks ask p group x number pr));
+      keeps = subst (λ (b : ℕ). KeepsHome (cleaned_home look (home_of (block_of blocks b))) (block_of blocks b) x (adds_for shape blocks ask) (kind_of ask.op) u) at
+          (subst (λ (b : ℕ). KeepsHome (cleaned_home look (home_of (block_of blocks p.block))) (block_of blocks p.block) x (adds_in (cleaned_home look (home_of (block_of blocks b))) ask) (kind_of ask.op) u) pr.there
+          (subst (λ (h : Home). KeepsHome h (block_of blocks p.block) x (adds_in h ask) (kind_of ask.op) u) pr.cleaned (keeps shape blocks ask p group x number pr)));
       home = subst (λ (b : ℕ). home_of (block_of now b) ≡ home_after (kind_of ask.op) x a u (cleaned_home look (home_of (block_of blocks b)))) at (home_now shape blocks ask p group x number pr);
       short = subst (λ (b : ℕ). StaysShort (block_of blocks b) (block_of now b)) at (short_now shape blocks ask p group x number pr);
       recorded = recorded shape blocks ask p group x number pr;
@@ -375,7 +377,7 @@ pub record IsMadeBy (shape : Shape) (blocks : List (List ℕ)) (ask : Ask) (grou
   pub key : undo.key ≡ ask.key
   pub wrap : undo.wrap ≡ x.wrap
   pub home : undo.home ≡ home_block shape ask.table ask.key
-  pub is_written : IsWritten shape (SLOTS * x.seg + x.slot) (adds_row ask.op) (kind_of ask.op) address undo blocks (after_group (logged_of shape blocks + 1) group blocks)
+  pub is_written : IsWritten shape (SLOTS * x.seg + x.slot) (adds_for shape blocks ask) (kind_of ask.op) address undo blocks (after_group (logged_of shape blocks + 1) group blocks)
 
 pub made_by : (shape : Shape) (blocks : List (List ℕ)) (ask : Ask) (p : Place) (group : List Patch) (x : Xid) → Prepared shape blocks ask p group x → IsMadeBy shape blocks ask group x
 made_by shape blocks ask p group x prepared =

@@ -1,42 +1,62 @@
 -- What a write asks for, and where it is made.
-use Rattle.std.specs.Prelude.{◌≡◌, ◌≢◌, ◌<◌, ◌≤◌, ◌^◌, ℕ, Bool, true, false, List, length}
-use Rattle.std.specs.Prelude.{Option, None, Some, ⊤}
+use Rattle.std.specs.Prelude.{◌≡◌, ◌≢◌, ◌==◌, ◌<◌, ◌≤◌, ◌^◌, ℕ, Bool, true, false, not}
+use Rattle.std.specs.Prelude.{List, length, Option, None, Some, ⊤}
 use Rattle.rb_base.specs.Blocks.{block_of, header_block, home_block, table_blocks}
 use Rattle.rb_base.specs.declared.ids.Xid.{Xid}
 use Rattle.rb_base.specs.declared.shape.Shape.{Shape}
 use Rattle.rb_base.specs.declared.sizes.TheConstants.{ACTIVE, SLOTS, VALUE_BYTES}
+use Rattle.rb_write.specs.Holding.{cell_of_key}
 use Rattle.rb_write.specs.declared.ask.Ask.{Ask}
+use Rattle.rb_cell.specs.declared.cell.Cell.{Cell}
+use Rattle.rb_cell.specs.declared.cell.TheConstants.{ROW}
 use Rattle.rb_heap.specs.Cleaning.{cleaned_home}
 use Rattle.rb_heap.specs.Homes.{Home, home_entry, home_of}
 use Rattle.rb_itl.specs.declared.slots.Entry.{Entry}
 use Rattle.rb_itl.specs.declared.slots.TheConstants.{ENTRIES, OPEN}
 use Rattle.rb_model.specs.Change.{Kind, Put, Gone, Held}
 use Rattle.rb_model.specs.declared.op.Op.{Op}
-use Rattle.rb_model.specs.declared.op.Op.TheVariants.{Insert, Update, Delete}
+use Rattle.rb_model.specs.declared.op.Op.TheVariants as op
 use Rattle.rb_segment.specs.Calls.{IsYoung, Runs}
 use Rattle.rb_segment.specs.Header.{Header, header_of, slot_in}
 use Rattle.rb_segment.specs.Moves.{claimed, MayClaim}
 use Rattle.law_blocks.specs.Standing.{env_of}
 use Rattle.rb_txntable.specs.Slots.{active_count}
 
--- an insert makes a row, and each other write needs the one that is there
-abbrev pub adds_row : Option Op → Bool
-adds_row (Some (Insert value)) = true
-adds_row (Some (Update value)) = false
-adds_row (Some Delete) = false
-adds_row None = false
+-- the cell, where there is one, holds a row
+abbrev pub is_row : Option Cell → Bool
+is_row None = false
+is_row (Some cell) = cell.state == ROW
+
+-- the key has a row in that home: the cell that is found by it holds one
+abbrev pub shows_row : Home → ℕ → Bool
+shows_row home key = is_row (cell_of_key home key)
+
+-- Whether an operation adds a row, by whether its key has one: an insert does, a put does where there is none, and each
+-- other write needs the one that is there.
+abbrev pub adds_row : Option Op → Bool → Bool
+adds_row (Some (op.Insert value)) present = true
+adds_row (Some (op.Update value)) present = false
+adds_row (Some (op.Put value)) present = not present
+adds_row (Some op.Delete) present = false
+adds_row None present = false
+
+-- the write adds a row to that home
+abbrev pub adds_in : Home → Ask → Bool
+adds_in home ask = adds_row ask.op (shows_row home ask.key)
 
 -- a value has room in its cell
 abbrev pub IsShort : Option Op → Type 0
-IsShort (Some (Insert value)) = length value.now ≤ VALUE_BYTES
-IsShort (Some (Update value)) = length value.now ≤ VALUE_BYTES
-IsShort (Some Delete) = ⊤
+IsShort (Some (op.Insert value)) = length value.now ≤ VALUE_BYTES
+IsShort (Some (op.Update value)) = length value.now ≤ VALUE_BYTES
+IsShort (Some (op.Put value)) = length value.now ≤ VALUE_BYTES
+IsShort (Some op.Delete) = ⊤
 IsShort None = ⊤
 
 abbrev pub kind_of : Option Op → Kind
-kind_of (Some (Insert value)) = Put value.now
-kind_of (Some (Update value)) = Put value.now
-kind_of (Some Delete) = Gone
+kind_of (Some (op.Insert value)) = Put value.now
+kind_of (Some (op.Update value)) = Put value.now
+kind_of (Some (op.Put value)) = Put value.now
+kind_of (Some op.Delete) = Gone
 kind_of None = Held
 
 abbrev pub header_in : Shape → List (List ℕ) → ℕ → Header
@@ -46,6 +66,10 @@ header_in shape blocks g = header_of (block_of blocks (header_block shape g))
 abbrev pub home_for : Shape → List (List ℕ) → Ask → Home
 home_for shape blocks ask =
     cleaned_home (env_of shape blocks).look (home_of (block_of blocks (home_block shape ask.table ask.key)))
+
+-- the write adds a row there
+abbrev pub adds_for : Shape → List (List ℕ) → Ask → Bool
+adds_for shape blocks ask = adds_in (home_for shape blocks ask) ask
 
 -- Segment g has the fewest transactions that run, and is the lowest of these.
 pub record IsFewest (shape : Shape) (blocks : List (List ℕ)) (g : ℕ) : Type 0 where

@@ -1,7 +1,7 @@
 -- What a write makes: the undo record of its change, and what the change adds to its group.
 use Rattle.std.specs.Prelude.{◌≡◌, ◌<◌, ◌+◌, ◌*◌, ◌^◌, ℕ, List, ◌++◌, length}
-use Rattle.rb_write.specs.Asks.{adds_row, home_for, kind_of, IsWriterOf}
-use Rattle.rb_write.specs.Refusals.{TakesWrite}
+use Rattle.rb_write.specs.Asks.{adds_for, kind_of, IsWriterOf}
+use Rattle.rb_write.specs.Refusals.{TakesAsk}
 use Rattle.rb_write.specs.declared.ask.Ask.{Ask}
 use Rattle.rb_write.specs.declared.home.Place.{Place}
 use Rattle.rb_base.specs.Blocks.{after_group, header_block, home_block, written_to}
@@ -67,11 +67,11 @@ IsMade shape before now ask x = (address : Uba) × (u : UndoRecord) × (ready : 
     × IsWriterOf shape before ask.own x ready
     × (u.table ≡ ask.table) × (u.key ≡ ask.key) × (u.wrap ≡ x.wrap)
     × (u.home ≡ home_block shape ask.table ask.key)
-    × IsWritten shape (16 * x.seg + x.slot) (adds_row ask.op) (kind_of ask.op) address u before now
+    × IsWritten shape (16 * x.seg + x.slot) (adds_for shape before ask) (kind_of ask.op) address u before now
 
 -- No test stands in its way: of the row and its home, and of the log's numbers.
 pub record MayMake (shape : Shape) (blocks : List (List ℕ)) (ask : Ask) (logged : ℕ) : Type 0 where
-  pub takes : TakesWrite (home_for shape blocks ask) (adds_row ask.op) ask.key
+  pub takes : TakesAsk shape blocks ask
   pub numbers : logged < WORN
 
 -- The group of these patches, where there are any, makes the write.

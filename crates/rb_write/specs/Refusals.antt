@@ -4,7 +4,7 @@ use Rattle.std.specs.Prelude.{Ok, Err}
 use Rattle.rb_base.specs.declared.ids.Xid.{Xid}
 use Rattle.rb_base.specs.declared.shape.Shape.{Shape}
 use Rattle.rb_base.specs.declared.sizes.TheConstants.{WORN}
-use Rattle.rb_write.specs.Asks.{adds_row, home_for, IsWriterOf}
+use Rattle.rb_write.specs.Asks.{adds_for, home_for, IsWriterOf}
 use Rattle.rb_write.specs.declared.ask.Ask.{Ask}
 use Rattle.rb_write.specs.declared.ask.AttemptFault.{AttemptFault}
 use Rattle.rb_write.specs.declared.ask.AttemptFault.TheVariants.{Failed, Duplicate, NotFound, BlockFull, SlotsFull}
@@ -39,6 +39,10 @@ pub record TakesWriter (home : Home) (adds : Bool) (key : ℕ) (x : Xid) : Type 
   pub takes : TakesWrite home adds key
   pub entry : ¬ HasNoChoice (home_entry home) x
 
+-- the write that is asked for is taken by the home of its key
+abbrev pub TakesAsk : Shape → List (List ℕ) → Ask → Type 0
+TakesAsk shape blocks ask = TakesWrite (home_for shape blocks ask) (adds_for shape blocks ask) ask.key
+
 -- why a write is refused, by its cleaned home, its transaction with the segment's header, and the last log number
 abbrev pub Refuses : AttemptFault → Home → Bool → ℕ → Xid → Header → ℕ → Type 0
 Refuses Duplicate home adds key x ready logged = (adds ≡ true) × HasRow home key
@@ -71,4 +75,4 @@ has_failed (Err WornOut) = false
 -- why the write that is asked for isn't made, by whatever transaction
 abbrev pub HasCause : Shape → List (List ℕ) → Ask → ℕ → AttemptFault → Type 0
 HasCause shape blocks ask logged fault = (x : Xid) × (ready : Header) × IsWriterOf shape blocks ask.own x ready
-    × Refuses fault (home_for shape blocks ask) (adds_row ask.op) ask.key x ready logged
+    × Refuses fault (home_for shape blocks ask) (adds_for shape blocks ask) ask.key x ready logged

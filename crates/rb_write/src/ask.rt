@@ -27,10 +27,10 @@ pub enum AttemptFault {
     /// An insert of a key that has a row.
     #[error("the key has a row")]
     Duplicate,
-    /// A write of another kind, of a key that has no row.
+    /// An update, a delete or a lock of a key that has no row.
     #[error("the key has no row")]
     NotFound,
-    /// An insert where no cell of the key's block is free.
+    /// An insert or a put of a key without a row, where no cell of the key's block is free.
     #[error("no cell of the key's block is free")]
     BlockFull,
     /// Each slot entry of the key's block is another transaction's, of which no outcome is known.

@@ -1,9 +1,9 @@
 //! One attempt of a write: what stands in its way, and the group that makes it. rb_steps calls it.
 ghost use Rattle.std.specs.Prelude.{◌≡◌, ◌*◌, ◌+◌, ◌<◌, ◌≤◌, List, [], true, false, not};
 ghost use Rattle.std.specs.Prelude.{length, Some, IfOk, IfErr, OnErr, OnOk};
-ghost use Rattle.rb_write.specs.Asks.{adds_row, home_for, kind_of, AreYoung, IsShort, IsWriterOf, MayWrite};
+ghost use Rattle.rb_write.specs.Asks.{adds_for, kind_of, AreYoung, IsShort, IsWriterOf, MayWrite};
 ghost use Rattle.rb_write.specs.Making.{IsMade, MakesIfAny};
-ghost use Rattle.rb_write.specs.Refusals.{has_failed, HasCause, Refuses, TakesWrite};
+ghost use Rattle.rb_write.specs.Refusals.{has_failed, HasCause, TakesAsk};
 ghost use Rattle.rb_base.specs.Blocks.{after_group, home_block, AreWithin};
 ghost use Rattle.rb_base.specs.Groups.{Patch};
 ghost use Rattle.rb_base.specs.Logs.{Logs, group_of};
@@ -44,8 +44,7 @@ fn prepare<S: Store>(
         (after_group (logged_of (S.shape_of store.old) (S.blocks store.old) + 1) workspace.new.group
         (S.blocks store.old)) ask.now) }
     ensures takes { S.tells → AreYoung (S.shape_of store.old) (S.blocks store.old)
-        → OnOk result (TakesWrite (home_for (S.shape_of store.old) (S.blocks store.old) ask.now)
-        (adds_row ask.now.op) ask.now.key) }
+        → OnOk result (TakesAsk (S.shape_of store.old) (S.blocks store.old) ask.now) }
     ensures cause { S.tells → AreYoung (S.shape_of store.old) (S.blocks store.old)
         → MayWrite (S.shape_of store.old) (S.blocks store.old) ask.now.own → has_failed result ≡ false
         → IfErr result (HasCause (S.shape_of store.old) (S.blocks store.old) ask.now (S.lsn store.old)) }
@@ -75,10 +74,10 @@ fn prepare<S: Store>(
 
 /// Writes a key of a table by one group, or refuses to and logs none. The transaction runs, or takes a table slot of
 /// the segment with the fewest that run. Its block is cleaned; the change takes a slot entry and a cell of it, and what
-/// they were is kept in an undo record. The tests come in this order: whether the key has a row, a cell for an insert,
-/// an entry, room for the record, and the log's numbers. `Failed` only where a call of the store failed. What the
-/// workspace has afterwards is open. In a damaged file, where the transaction doesn't run or no table slot is idle, it
-/// is `RollbackFull`. The key is no other transaction's. (Oracle7 Server Concepts, *Rollback Segments*.)
+/// they were is kept in an undo record. The tests come in this order: whether the key has a row, a cell for a row that
+/// is added, an entry, room for the record, and the log's numbers. `Failed` only where a call of the store failed. What
+/// the workspace has afterwards is open. In a damaged file, where the transaction doesn't run or no table slot is idle,
+/// it is `RollbackFull`. The key is no other transaction's. (Oracle7 Server Concepts, *Rollback Segments*.)
 pub fn attempt<S: Store>(
     store: &mut S,
     ask: &Ask<'_>,
@@ -103,17 +102,14 @@ pub fn attempt<S: Store>(
         × IsWriterOf (S.shape_of store.old) (S.blocks store.old) ask.now.own x ready
         × (u.table ≡ ask.now.table) × (u.key ≡ ask.now.key) × (u.wrap ≡ x.wrap)
         × (u.home ≡ home_block (S.shape_of store.old) ask.now.table ask.now.key)
-        × IsWritten (S.shape_of store.old) (16 * x.seg + x.slot) (adds_row ask.now.op) (kind_of ask.now.op) address u
+        × IsWritten (S.shape_of store.old) (16 * x.seg + x.slot)
+        (adds_for (S.shape_of store.old) (S.blocks store.old) ask.now) (kind_of ask.now.op) address u
         (S.blocks store.old) (S.blocks store.new)) }
     ensures takes { S.tells → AreYoung (S.shape_of store.old) (S.blocks store.old)
-        → OnOk result (TakesWrite (home_for (S.shape_of store.old) (S.blocks store.old) ask.now)
-        (adds_row ask.now.op) ask.now.key) }
+        → OnOk result (TakesAsk (S.shape_of store.old) (S.blocks store.old) ask.now) }
     ensures cause { S.tells → AreYoung (S.shape_of store.old) (S.blocks store.old)
         → MayWrite (S.shape_of store.old) (S.blocks store.old) ask.now.own → has_failed result ≡ false
-        → IfErr result (λ fault. (x : Xid) × (ready : Header)
-        × IsWriterOf (S.shape_of store.old) (S.blocks store.old) ask.now.own x ready
-        × Refuses fault (home_for (S.shape_of store.old) (S.blocks store.old) ask.now) (adds_row ask.now.op)
-        ask.now.key x ready (S.lsn store.old)) }
+        → IfErr result (HasCause (S.shape_of store.old) (S.blocks store.old) ask.now (S.lsn store.old)) }
     ensures numbers { OnOk result (S.lsn store.old < WORN) }
 {
     let xid = prepare(store, ask, workspace)?;

@@ -3,7 +3,7 @@
 ghost use Rattle.std.specs.Prelude.{◌≡◌, ◌<◌, ◌≤◌, ◌+◌, ◌^◌, false, true, not, [], length};
 ghost use Rattle.std.specs.Prelude.{IfErr, IfOk, OnErr, OnOk};
 ghost use Rattle.std.specs.List.{AllByRecursion};
-ghost use Rattle.rb_write.specs.Asks.{adds_row, kind_of, AreYoung, IsShort};
+ghost use Rattle.rb_write.specs.Asks.{adds_in, adds_row, kind_of, AreYoung, IsShort};
 ghost use Rattle.rb_write.specs.Refusals.{has_failed, HomeRefuses, TakesWrite};
 ghost use Rattle.rb_base.specs.Blocks.{block_of, table_blocks, written_to, AreBlocks};
 ghost use Rattle.rb_base.specs.Groups.{group_length};
@@ -66,32 +66,39 @@ pub fn clean_home<S: Store>(
     }
 }
 
-/// Whether an insert is asked for.
-fn is_insert(ask: &Ask<'_>) -> bool
-    ensures { result ≡ adds_row ask.now.op }
+/// Whether the write adds a row, by whether its key has one.
+fn makes_row(ask: &Ask<'_>, present: bool) -> bool
+    ensures { result ≡ adds_row ask.now.op present }
 {
-    matches!(ask.op, Some(Op::Insert(_)))
+    match ask.op {
+        Some(Op::Insert(_)) => true,
+        Some(Op::Put(_)) => !present,
+        Some(Op::Update(_) | Op::Delete) | None => false,
+    }
 }
 
-/// The cell, 0 to 15, of a cleaned home that the write takes: that of its key, or a free one for an insert that finds
-/// none. An insert needs a key without a row, and each other write one with a row.
+/// The cell, 0 to 15, of a cleaned home that the write takes: that of its key, or a free one for a row that it adds
+/// where no cell has the key. An insert needs a key without a row, a put takes either, and each other write one with a
+/// row.
 pub fn cell_for(home: &[u8], ask: &Ask<'_>) -> Result<u8, AttemptFault>
     requires { length home.now ≡ UNIT }
-    ensures cell { IfOk result (λ c. IsCellChoice (home_of home.now) (adds_row ask.now.op) ask.now.key c) }
+    ensures cell { IfOk result (λ c. IsCellChoice (home_of home.now)
+        (adds_in (home_of home.now) ask.now) ask.now.key c) }
     ensures within { IfOk result (λ c. c < CELLS) }
-    ensures takes { OnOk result (TakesWrite (home_of home.now) (adds_row ask.now.op) ask.now.key) }
-    ensures refused { IfErr result (λ fault. HomeRefuses fault (home_of home.now) (adds_row ask.now.op) ask.now.key) }
+    ensures takes { OnOk result (TakesWrite (home_of home.now) (adds_in (home_of home.now) ask.now) ask.now.key) }
+    ensures refused { IfErr result (λ fault. HomeRefuses fault (home_of home.now)
+        (adds_in (home_of home.now) ask.now) ask.now.key) }
     ensures going { has_failed result ≡ false }
 {
-    let adds = is_insert(ask);
     let Some(c) = find(home, ask.key) else {
-        return if adds {
+        return if makes_row(ask, false) {
             free_cell(home).ok_or(AttemptFault::BlockFull)
         } else {
             Err(AttemptFault::NotFound)
         };
     };
-    match (adds, front(home, c).state == ROW) {
+    let present = front(home, c).state == ROW;
+    match (makes_row(ask, present), present) {
         (true, true) => Err(AttemptFault::Duplicate),
         (false, false) => Err(AttemptFault::NotFound),
         _ => Ok(c),
@@ -118,7 +125,7 @@ pub fn new_cell(ask: &Ask<'_>, old: Cell, i: u8) -> Cell
     ensures { result ≡ cell_after (kind_of ask.now.op) ask.now.key i old }
 {
     match ask.op {
-        Some(Op::Insert(value)) | Some(Op::Update(value)) => row(ask.key, i + 1, value),
+        Some(Op::Insert(value) | Op::Update(value) | Op::Put(value)) => row(ask.key, i + 1, value),
         Some(Op::Delete) => Cell {
             state: STUB,
             lock: i + 1,

@@ -31,7 +31,7 @@ fn kind(ask: &Ask<'_>) -> u8
     ensures { sort_by result ≡ sort_of (kind_of ask.now.op) }
 {
     match ask.op {
-        Some(Op::Insert(_)) | Some(Op::Update(_)) => PUT,
+        Some(Op::Insert(_) | Op::Update(_) | Op::Put(_)) => PUT,
         Some(Op::Delete) => GONE,
         None => HELD,
     }

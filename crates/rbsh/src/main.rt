@@ -61,7 +61,7 @@ fn run_words<'a>(rt: &HostRuntime, words: &'a [String]) -> Ended<'a>
         file,
         fault: find_fault(words),
         source: source.error(),
-        disk: disk.cause(),
+        disk: disk.into_cause(),
         sink: sink.error(),
     }
 }

@@ -28,7 +28,8 @@ pub struct Ended<'a> {
     pub file: &'a str,
     /// Which word is wrong, where the words have none of the forms.
     pub fault: Option<Fault<'a>>,
-    /// Of the script's source, the file and the replies' sink: why the last call that failed did so.
+    /// Of the script's source, the file and the replies' sink: why the last call that failed did so. Of the file also
+    /// that there is none.
     pub source: Option<io::Error>,
     pub disk: Option<Cause>,
     pub sink: Option<io::Error>,
@@ -93,11 +94,12 @@ pub fn report(rt: &HostRuntime, ended: &Ended<'_>) -> io::Result<()> {
         Status::SourceFault => eprintln!(rt; "{name}: standard input: {}", Known(ended.source)),
         Status::DiskFault => eprintln!(rt; "{name}: {file}: {}", Known(ended.disk)),
         Status::SinkFault => eprintln!(rt; "{name}: standard output: {}", Known(ended.sink)),
-        Status::NotAStore => {
-            eprintln!(rt;
+        Status::NotAStore => match ended.disk {
+            Some(cause) => eprintln!(rt; "{name}: {file}: {cause}"),
+            None => eprintln!(rt;
                 "{name}: {file}: not a store, or a damaged one; tools/inspect says what is wrong"
-            )
-        }
+            ),
+        },
         Status::NoMemory => eprintln!(rt; "{name}: out of memory, nothing was done"),
         Status::NotEmpty => eprintln!(rt; "{name}: {file}: the file isn't empty"),
         Status::TooLong => eprintln!(rt; "{name}: standard input: 1000000000 bytes or more"),
@@ -107,7 +109,9 @@ pub fn report(rt: &HostRuntime, ended: &Ended<'_>) -> io::Result<()> {
 /// Answers on standard output what is asked of the program itself.
 pub fn answer(rt: &HostRuntime, question: Question) -> io::Result<()> {
     match question {
-        Question::Version => println!(rt; "rbsh, form {VERSION} of the file"),
+        Question::Version => println!(rt;
+            "rbsh, form {VERSION} of the file; forms 101 to 104 were before the first release"
+        ),
         Question::Help => println!(rt; "{FORMS}\n{RANGES}"),
     }
 }

@@ -28,12 +28,38 @@ fn keeps_its_bytes(rt: HostRuntime) -> Result<(), Fail> {
 }
 
 #[test]
+fn reads_no_file_as_an_empty_one(rt: HostRuntime) -> Result<(), Fail> {
+    let _ = fs::remove_file(&rt, "none.bin");
+    let mut disk = FileDisk::at(&rt, "none.bin");
+    assert!(rt; disk.len()? == 0);
+    disk.read_at(0, &mut [])?;
+    assert!(rt; disk.read_at(0, &mut [0]).is_err());
+    disk.sync()?;
+    assert!(rt; !fs::exists(&rt, "none.bin")?);
+    // What another one makes meanwhile is not written over.
+    fs::write(&rt, "none.bin", "abc")?;
+    assert!(rt; disk.len()? == 0);
+    assert!(rt; disk.write_at(0, b"-").is_err());
+    assert!(rt; fs::read(&rt, "none.bin")?.as_slice() == b"abc".as_slice());
+    fs::remove_file(&rt, "none.bin")?;
+    disk.write_at(0, b"-")?;
+    assert!(rt; disk.len()? == 1);
+    fs::remove_file(&rt, "none.bin")?;
+    Ok(())
+}
+
+#[test]
 fn fails_past_the_end_and_over_no_file(rt: HostRuntime) -> Result<(), Fail> {
+    let _ = fs::remove_file(&rt, "short.bin");
     let mut file = FileDisk::at(&rt, "short.bin");
-    assert!(rt; file.read_at(0, &mut [0]).is_err());
-    for path in ["no/such/folder.bin", ".", "/dev/null"] {
+    file.write_at(0, b"-")?;
+    assert!(rt; file.read_at(0, &mut [0; 2]).is_err());
+    for path in [".", "/dev/null"] {
         assert!(rt; FileDisk::at(&rt, path).len().is_err());
     }
+    let mut nowhere = FileDisk::at(&rt, "no/such/folder.bin");
+    assert!(rt; nowhere.write_at(0, b"-").is_err());
+    assert!(rt; nowhere.sync().is_err());
     fs::remove_file(&rt, "short.bin")?;
     Ok(())
 }

@@ -1,6 +1,6 @@
 //! Lines and replies, worked by hand.
 use arrayvec::ArrayVec;
-use rb_model::{Mode, Op, Refusal};
+use rb_model::{Activity, Mode, Op, Refusal, Wait};
 use rb_script::{Command, Reply, Request, parse, print};
 
 // Each line is a bad one.
@@ -100,6 +100,15 @@ marks 0
 flush 1
 flush\x20
 flushes
+sessions 1
+sessions\x20
+put 1 1 1
+put 1 1 a b
+puts 1 1 1 a
+get 1 1
+get 1 1 1 a
+get 1 1 1\x20
+gets 1 1 1
 checkpoint 1
 \x20
 ";
@@ -119,6 +128,7 @@ fn numbers_of_request(request: &Request<'_>) -> (u8, [u64; 3]) {
             let letter = match op {
                 Op::Insert(_) => b'i',
                 Op::Update(_) => b'u',
+                Op::Put(_) => b'a',
                 Op::Delete => b'd',
             };
             (letter, [u64::from(*t), *k, 0])
@@ -133,6 +143,7 @@ fn numbers_of_request(request: &Request<'_>) -> (u8, [u64; 3]) {
         Request::OpenCursor { t, lo, hi, .. } => (b'o', [u64::from(*t), *lo, *hi]),
         Request::Fetch { n, .. } => (b'f', [u64::from(*n), 0, 0]),
         Request::CloseCursor { .. } => (b'x', [0; 3]),
+        Request::Get { t, k } => (b'g', [u64::from(*t), *k, 0]),
         Request::Cancel => (b'n', [0; 3]),
     }
 }
@@ -145,6 +156,7 @@ fn numbers_of(command: &Command<'_>) -> (u8, [u64; 4]) {
             (letter, [u64::from(*s), first, second, third])
         }
         Command::Marks => (b'm', [0; 4]),
+        Command::Sessions => (b'y', [0; 4]),
         Command::Flush => (b'h', [0; 4]),
         Command::Checkpoint => (b'p', [0; 4]),
     }
@@ -164,7 +176,7 @@ fn mode_of(text: &[u8]) -> Option<Mode> {
 fn request_has_text(request: &Request<'_>, text: &[u8]) -> bool {
     match request {
         Request::Write { op, .. } => match op {
-            Op::Insert(value) | Op::Update(value) => *value == text,
+            Op::Insert(value) | Op::Update(value) | Op::Put(value) => *value == text,
             Op::Delete => text.is_empty(),
         },
         Request::Set { mode } => mode_of(text) == Some(*mode),
@@ -195,7 +207,7 @@ fn spells(line: &[u8], letter: u8, numbers: [u64; 4], text: &[u8]) -> bool {
 
 #[test]
 fn lines_that_spell_a_command(rt: HostRuntime) {
-    let rows: [(&[u8], u8, [u64; 4], &[u8]); 19] = [
+    let rows: [(&[u8], u8, [u64; 4], &[u8]); 22] = [
         (
             b"insert 1 2 18446744073709551615 #!",
             b'i',
@@ -203,6 +215,8 @@ fn lines_that_spell_a_command(rt: HostRuntime) {
             b"#!",
         ),
         (b"update 65535 2 0 ~", b'u', [65535, 2, 0, 0], b"~"),
+        (b"put 65535 2 0 ~", b'a', [65535, 2, 0, 0], b"~"),
+        (b"get 1 2 9", b'g', [1, 2, 9, 0], b""),
         (
             b"delete 1 2 18446744073709551615",
             b'd',
@@ -240,6 +254,7 @@ fn lines_that_spell_a_command(rt: HostRuntime) {
         (b"rollback 0 1", b't', [0, 0, 0, 0], b"1"),
         (b"cancel 65535", b'n', [65535, 0, 0, 0], b""),
         (b"marks", b'm', [0, 0, 0, 0], b""),
+        (b"sessions", b'y', [0, 0, 0, 0], b""),
         (b"flush", b'h', [0, 0, 0, 0], b""),
         (b"checkpoint", b'p', [0, 0, 0, 0], b""),
         (b"open 1 _0 65535 9 0", b'o', [1, 65535, 9, 0], b"_0"),
@@ -273,7 +288,7 @@ fn texts_of_replies(rt: HostRuntime) {
     let value = [b'~'; 80];
     let longest =
         b"1 row 1 ~~~~~~~~~~~~~~~~~~~~~~~~~~~~~~~~~~~~~~~~~~~~~~~~~~~~~~~~~~~~~~~~~~~~~~~~~~~~~~~~\n";
-    let rows: [(Reply<'_>, &[u8]); 11] = [
+    let rows: [(Reply<'_>, &[u8]); 13] = [
         (Reply::Done { s: Some(1) }, b"1 ok\n"),
         (Reply::Done { s: None }, b"ok\n"),
         (
@@ -320,10 +335,53 @@ fn texts_of_replies(rt: HostRuntime) {
             },
             b"segment 15 writes 18446744073709551615 lost 0\n",
         ),
+        (Reply::Absent { s: 2 }, b"2 not found\n"),
+        (Reply::Nothing, b""),
         (Reply::BadLine, b"bad line\n"),
     ];
     for (reply, text) in &rows {
         assert!(rt; prints(reply, text), "{reply:?}");
+    }
+}
+
+/// Whether what session 2 has under way is written so, in that mode and with that wait.
+fn prints_session(mode: Mode, wait: Wait, text: &[u8]) -> bool {
+    let activity = Activity {
+        changes: 320,
+        cursors: 16,
+        mode,
+        wait,
+    };
+    prints(
+        &Reply::Shown {
+            session: 2,
+            activity,
+        },
+        text,
+    )
+}
+
+#[test]
+fn texts_of_sessions(rt: HostRuntime) {
+    let rows: [(Mode, Wait, &[u8]); 3] = [
+        (
+            Mode::Serializable,
+            Wait::On { session: 16 },
+            b"session 2 changes 320 cursors 16 mode serializable waits 16\n",
+        ),
+        (
+            Mode::ReadOnly,
+            Wait::Ready,
+            b"session 2 changes 320 cursors 16 mode read-only ready\n",
+        ),
+        (
+            Mode::ReadCommitted,
+            Wait::Free,
+            b"session 2 changes 320 cursors 16 mode read-committed\n",
+        ),
+    ];
+    for (mode, wait, text) in rows {
+        assert!(rt; prints_session(mode, wait, text), "{mode:?} {wait:?}");
     }
 }
 

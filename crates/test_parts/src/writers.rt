@@ -104,7 +104,7 @@ impl Writers {
         if s >= 4 || table == 0 || table > shape.tables {
             return Err(AttemptFault::Failed);
         }
-        if let Some(Op::Insert(value) | Op::Update(value)) = op {
+        if let Some(Op::Insert(value) | Op::Update(value) | Op::Put(value)) = op {
             if value.len() > VALUE_BYTES {
                 return Err(AttemptFault::Failed);
             }

@@ -64,6 +64,26 @@ fn fetched(s: u16, answer: Result<Fetched, Refusal>, row: &Row) -> Reply<'_> {
     }
 }
 
+// The reply to a read of one key, with the row that it filled.
+fn got(s: u16, answer: Result<Fetched, Refusal>, row: &Row) -> Reply<'_> {
+    match answer {
+        Ok(Fetched::End) => Reply::Absent { s },
+        other => fetched(s, other, row),
+    }
+}
+
+// The reply to `sessions` that tells of the first session, with no line where that has nothing under way.
+fn shown<S: Store>(engine: &Engine<S>) -> Reply<'static> {
+    match engine.activity(1) {
+        Ok(Some(activity)) => Reply::Shown {
+            session: 1,
+            activity,
+        },
+        Ok(None) => Reply::Nothing,
+        Err(why) => Reply::Refused { s: None, why },
+    }
+}
+
 // The reply to `flush`.
 fn flushed<S: Store>(engine: &mut Engine<S>) -> Reply<'static> {
     match engine.flush() {
@@ -127,6 +147,10 @@ fn asked<'a, S: Store>(
             fetched(s, answer, row)
         }
         Request::CloseCursor { name } => done(s, engine.close_cursor(s, name)),
+        Request::Get { t, k } => {
+            let answer = engine.get(s, *t, *k, row);
+            got(s, answer, row)
+        }
         Request::Cancel => done(s, engine.cancel(s)),
     }
 }
@@ -142,6 +166,7 @@ fn called<'a, S: Store>(engine: &mut Engine<S>, line: &[u8], row: &'a mut Row) -
     match parse(line) {
         Some(Command::Session { s, request }) => asked(engine, s, &request, row),
         Some(Command::Marks) => marked(engine),
+        Some(Command::Sessions) => shown(engine),
         Some(Command::Flush) => flushed(engine),
         Some(Command::Checkpoint) => checkpointed(engine),
         None => Reply::BadLine,
@@ -215,8 +240,9 @@ fn log_engine(alloc: Global) -> Result<Engine<LogStore<MemDisk>>, Fail> {
 
 #[test]
 fn one_list_of_calls(rt: HostRuntime) -> Result<(), Fail> {
-    let rows: [(&str, &[u8]); 10] = [
+    let rows: [(&str, &[u8]); 11] = [
         ("writes", WRITES),
+        ("one key", ONE_KEY),
         ("later commits", LATER_COMMITS),
         ("cursors", CURSORS),
         ("rollbacks", ROLLBACKS),
@@ -236,6 +262,91 @@ fn one_list_of_calls(rt: HostRuntime) -> Result<(), Fail> {
     }
     Ok(())
 }
+
+// Reads of one key see the session's own changes and its transaction's snapshot; puts insert or update, also once they
+// have waited; and what session 1 has under way.
+const ONE_KEY: &[u8] = b"\
+sessions
+get 1 1 1
+#> 1 not found
+get 17 1 1
+#> 17 no session
+get 1 3 1
+#> 1 no table
+put 1 1 1 a
+#> 1 ok
+get 1 1 1
+#> 1 row 1 a
+get 2 1 1
+#> 2 not found
+sessions
+#> session 1 changes 1 cursors 0 mode read-committed
+put 2 1 1 b
+#> 2 waits 1
+get 2 1 1
+#> 2 waiting
+commit 1
+#> 1 committed 1
+resume
+#> 2 ok
+set 3 read-only
+#> 3 ok
+put 3 1 1 z
+#> 3 read only
+commit 2
+#> 2 committed 2
+get 3 1 1
+#> 3 row 1 a
+get 1 1 1
+#> 1 row 1 b
+delete 1 1 1
+#> 1 ok
+get 1 1 1
+#> 1 not found
+put 1 1 1 c
+#> 1 ok
+get 1 1 1
+#> 1 row 1 c
+savepoint 1 p
+#> 1 ok
+open 1 c 1 0 9
+#> 1 ok
+sessions
+#> session 1 changes 2 cursors 1 mode read-committed
+set 4 serializable
+#> 4 ok
+commit 1
+#> 1 committed 3
+put 4 1 1 d
+#> 4 cannot serialize 2 3
+sessions
+#> session 1 changes 0 cursors 1 mode read-committed
+close 1 c
+#> 1 ok
+sessions
+savepoint 1 p
+#> 1 ok
+sessions
+#> session 1 changes 0 cursors 0 mode read-committed
+rollback 1
+#> 1 ok
+set 1 serializable
+#> 1 ok
+lock 2 1 1
+#> 2 ok
+put 1 1 1 e
+#> 1 waits 2
+sessions
+#> session 1 changes 0 cursors 0 mode serializable waits 2
+rollback 2
+#> 2 ok
+sessions
+#> session 1 changes 0 cursors 0 mode serializable ready
+resume
+#> 1 ok
+resume
+#> 0 end
+";
 
 // A later commit is seen at once and frees who waits, a commit behind it takes the next number, and a flush tells the
 // last one, also where nothing waits.

@@ -21,6 +21,8 @@ mod generated;
 #[cfg(test)]
 mod isolation;
 #[cfg(test)]
+mod keys;
+#[cfg(test)]
 mod laps;
 #[cfg(test)]
 mod later;

@@ -14,6 +14,12 @@ returns-in-Session-clause-made g c = subst (λ (command : Command). Made g.T.Sto
 pub returns-in-Marks-clause-made : goal.returns-in-Marks-clause-made
 returns-in-Marks-clause-made g c = subst (λ (command : Command). Made g.T.Store (call_of (command_of command) c.args.k) (answer_of c.answer_of_segment.result c.args.row.now) c.args.engine.now c.answer_of_segment.new.engine) (sym c.in-Marks.is) (c.answer_of_segment.ensures.made c.args.row.now)
 
+pub returns-in-Sessions-clause-made : goal.returns-in-Sessions-clause-made
+returns-in-Sessions-clause-made g c = subst (λ (command : Command). Made g.T.Store (call_of (command_of command) c.args.k) (answer_of c.answer_of_session.result c.args.row.now) c.args.engine.now c.args.engine.now) (sym c.in-Sessions.is) (c.answer_of_session.ensures.made c.args.row.now)
+
+pub returns-in-Sessions-clause-fits : goal.returns-in-Sessions-clause-fits
+returns-in-Sessions-clause-fits g c = subst (λ (command : Command). FitsCaller (caller (command_of command)) c.answer_of_session.result) (sym c.in-Sessions.is) c.answer_of_session.ensures.fits
+
 pub returns-in-Flush-clause-made : goal.returns-in-Flush-clause-made
 returns-in-Flush-clause-made g c = subst (λ (command : Command). Made g.T.Store (call_of (command_of command) c.args.k) (answer_of c.answer_to_flush.result c.args.row.now) c.args.engine.now c.flush.new.self) (sym c.in-Flush.is)
     (made_by g.T.Store _ c.args.engine.now c.flush.new.self _ _ _ (c.answer_to_flush.ensures.answer c.args.row.now) (c.answer_to_flush.ensures.fault c.args.row.now) c.flush.ensures.did c.flush.ensures.makes (λ h st scn lost is. tt) c.flush.ensures.same c.flush.ensures.disk)

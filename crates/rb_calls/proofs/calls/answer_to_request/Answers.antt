@@ -4,7 +4,7 @@ use Rattle.rb_model.specs.Lines.{call_of}
 use Rattle.rb_script.specs.Commands.{asked_by}
 use Rattle.rb_script.specs.declared.command.Request.{Request}
 use Rattle.rb_calls.specs.Made.{Made}
-use Rattle.rb_calls.proofs.CallLemmas.{made_by, old_fetch, old_outcome}
+use Rattle.rb_calls.proofs.CallLemmas.{made_by, old_fetch, old_get, old_outcome}
 use Rattle.rb_calls.proofs.calls.answer_to_request.Goals as goal
 
 pub returns-in-Write : goal.returns-in-Write
@@ -89,4 +89,11 @@ returns-in-Cancel g c = record {
   made = subst (λ (request : Request). (k : ℕ) → Made g.T.Store (call_of (asked_by c.args.s request) k) (answer_of c.answer_to_call-in-Cancel.result c.args.row.now) c.args.engine.now c.cancel.new.self) (sym c.in-Cancel.is)
       (λ k. made_by g.T.Store _ c.args.engine.now c.cancel.new.self _ _ _ (c.answer_to_call-in-Cancel.ensures.answer c.args.row.now) (c.answer_to_call-in-Cancel.ensures.fault c.args.row.now) c.cancel.ensures.did c.cancel.ensures.makes (λ h st scn lost is. tt) c.cancel.ensures.same c.cancel.ensures.disk);
   fits = c.answer_to_call-in-Cancel.ensures.fits (Some c.args.s);
+}
+
+pub returns-in-Get : goal.returns-in-Get
+returns-in-Get g c = record {
+  made = subst (λ (request : Request). (k : ℕ) → Made g.T.Store (call_of (asked_by c.args.s request) k) (answer_of c.answer_to_get.result c.get.new.row) c.args.engine.now c.get.new.self) (sym c.in-Get.is)
+      (λ k. made_by g.T.Store _ c.args.engine.now c.get.new.self _ _ _ (c.answer_to_get.ensures.answer c.get.new.row) (c.answer_to_get.ensures.fault c.get.new.row) c.get.ensures.did c.get.ensures.makes (λ h st scn lost is. c.get.ensures.lost h st scn lost (old_get c.get.result c.get.new.row scn lost is)) c.get.ensures.same c.get.ensures.disk);
+  fits = c.answer_to_get.ensures.fits c.args.s;
 }

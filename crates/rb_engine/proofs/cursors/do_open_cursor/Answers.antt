@@ -1,18 +1,15 @@
-use Rattle.std.proofs.Common.{inl, ◌≡◌, ◌++◌, ◌∷◌, [], ◌≤◌, ◌<◌, ℕ, List, length, nat_le, ◌&&◌, Option, None, Some, true, refl, sym, ◌∙◌, ap, subst, arith, map, ◌-◌}
+use Rattle.std.proofs.Common.{inl, ◌≡◌, ◌++◌, ◌∷◌, [], ◌≤◌, ◌<◌, ℕ, List, length, nat_le, ◌&&◌, None, Some, true, refl, sym, ◌∙◌, ap, subst, arith, map, ◌-◌}
 use Rattle.std.proofs.lemmas.Bool.{le-leb, lt-leb, and_from}
 use Rattle.std.proofs.lemmas.Result.{err_from_is_err_and}
 use Rattle.rb_base.specs.Logs.{Laws, no_logs}
-use Rattle.rb_base.specs.declared.ids.Xid.{Xid}
 use Rattle.rb_base.specs.declared.shape.Shape.{Shape}
 use Rattle.rb_engine.specs.declared.cursors.TheConstants.{CURSORS}
 use Rattle.rb_engine.specs.Does.{Does, Goes, IsInStep, Kept, Stands}
 use Rattle.rb_model.specs.Calls as machine
-use Rattle.rb_model.specs.Calls.{MayAnswer, name_tests, early_tests, none_applies}
+use Rattle.rb_model.specs.Calls.{MayAnswer, name_tests}
 use Rattle.rb_model.specs.Names.{name_text}
 use Rattle.rb_model.specs.NextState as next
-use Rattle.rb_model.specs.NextState.{cursors_of, opened_cursor, without_cursor}
-use Rattle.rb_model.specs.Isolation.{snapshot_at}
-use Rattle.rb_model.specs.Rows.{last_scn}
+use Rattle.rb_model.specs.NextState.{cursors_of, opened_cursor}
 use Rattle.rb_model.specs.State.{cursor_of, is_table}
 use Rattle.rb_model.specs.declared.refusal.Refusal.TheVariants.{CursorThere, TooManyCursors}
 use Rattle.rb_sessions.specs.Kept.{KeptSession, kept_at, named, with_cursor, with_kept}
@@ -23,6 +20,8 @@ use Rattle.law_sessions.specs.Laws.{cursor_opened}
 use Rattle.law_sessions.specs.Views.{Remembers}
 use Rattle.rb_engine.proofs.QueueLemmas.{all_asked}
 use Rattle.rb_engine.proofs.DoesLemmas.{does_cursors, does_refused, does_refused_late, is_some_of, not_some}
+use Rattle.rb_engine.proofs.GetLemmas.{opened_at}
+use Rattle.rb_engine.specs.Scanning.{opened_now}
 use Rattle.rb_engine.proofs.StepLemmas.{few_less, fit_at, fit_opened, in_step_moved, queue_moved}
 use Rattle.rb_engine.proofs.cursors.do_open_cursor.Given.{Over}
 use Rattle.rb_engine.proofs.cursors.do_open_cursor.Goals as goal
@@ -37,11 +36,6 @@ laws_of g = record {
   holds_back_same = λ store. g.met.T.Store.holds_back_same store;
   holds_back_joined = λ a b c first second. g.met.T.Store.holds_back_joined a b c first second;
 }
-
-same_cursor : (table lo hi scn scn2 upto upto2 : ℕ) (own own2 : Option Xid) → scn ≡ scn2 → own ≡ own2 → upto ≡ upto2
-    → let one : Cursor = record { table = table; lo = lo; hi = hi; scn = scn; own = own; upto = upto; last = None; present = true } in
-    let two : Cursor = record { table = table; lo = lo; hi = hi; scn = scn2; own = own2; upto = upto2; last = None; present = true } in one ≡ two
-same_cursor table lo hi scn scn2 upto upto2 own own2 a b c = rw (a, b, c) refl
 
 pub returns-in_err-check_table-clause-did : goal.returns-in_err-check_table-clause-did
 returns-in_err-check_table-clause-did g c =
@@ -75,7 +69,7 @@ returns-then-session-ge-CURSORS-clause-did g c = λ h st.
     let goes : Goes s h (record { memory = c.args.memory.now; store = c.args.store.now }) = st.goes going in
     let its = views.named_is h goes.xids (env_of h.shape (s.blocks c.args.store.now)) c.args.s name c.args.memory.now.sessions goes.remembers there.0 there.1 in
     let sessions = ap (λ (k : Kept). k.sessions) c.memory.view_is in
-    let count : c.session-session.result.cursors ≡ length (kept_at c.args.memory.now.sessions c.args.s).cursors = c.session-session.ensures.cursors ∙ ap (λ (l : List KeptSession). length (kept_at l c.args.s).cursors) sessions in
+    let count : c.session.result.cursors ≡ length (kept_at c.args.memory.now.sessions c.args.s).cursors = c.session.ensures.cursors ∙ ap (λ (l : List KeptSession). length (kept_at l c.args.s).cursors) sessions in
     let many : CURSORS ≤ length (cursors_of h c.args.s) = let full = c.if-session-ge-CURSORS.true in let same = its.2 in omega (arith, full, count, same) in
     let none : cursor_of h c.args.s name ≡ None = its.0 (ap (λ (l : List KeptSession). named name (kept_at l c.args.s).cursors) (sym sessions) ∙ (sym c.cursor.ensures ∙ not_some c.cursor.result (sym c.is_some.ensures ∙ c.if-is_some.false))) in
     does_refused_late s (laws_of g) h call TooManyCursors (record { memory = c.args.memory.now; store = c.args.store.now }) st c.requires.step.going
@@ -90,9 +84,10 @@ returns-clause-step g c =
     let is : IsInStep s old store = subst (λ (k : Kept). IsInStep s k store) (sym c.memory.view_is) c.requires.step in
     let k = kept_at c.memory.inside.sessions c.args.s in
     let name = name_text c.args.name.now in
-    let opened : Cursor = record { table = c.args.table; lo = c.args.lo; hi = c.args.hi; scn = c.snapshot_at.result; own = c.session-session.result.own; upto = c.session-session.result.length; last = None; present = true } in
+    let opened : Cursor = c.cursor_over-cursor.result in
     let here : (1 ≤ c.args.table) × (c.args.table ≤ (s.shape_of store).tables) = subst (λ (z : Shape). (1 ≤ c.args.table) × (c.args.table ≤ z.tables)) c.shape.ensures.shape c.in_ok-check_table.ensures.table in
-    let fit = fit_opened (s.shape_of store) name opened k (fit_at s old store is c.args.s) here in
+    let of_table = subst (λ (t : ℕ). (1 ≤ t) × (t ≤ (s.shape_of store).tables)) (sym (ap (λ (m : Cursor). m.table) c.cursor_over-cursor.ensures)) here in
+    let fit = fit_opened (s.shape_of store) name opened k (fit_at s old store is c.args.s) of_table in
     let moved = with_cursor name opened k in
     in_step_moved s old now store store is refl c.args.s c.in_ok-check_table.ensures.session moved fit c.open_cursor.ensures
     (queue_moved s old now store store is refl c.args.s c.in_ok-check_table.ensures.session moved fit c.open_cursor.ensures refl (inl refl))
@@ -113,12 +108,12 @@ returns-clause-did g c = λ h st.
     let k = kept_at old.sessions c.args.s in
     let its = views.named_is h goes.xids (env_of h.shape (s.blocks store)) c.args.s name old.sessions goes.remembers there.0 there.1 in
     let none : cursor_of h c.args.s name ≡ None = its.0 (sym c.cursor.ensures ∙ not_some c.cursor.result (sym c.is_some.ensures ∙ c.if-is_some.false)) in
-    let few : length (cursors_of h c.args.s) < CURSORS = let room = c.if-session-ge-CURSORS.false in let count = c.session-session.ensures.cursors in let same = its.2 in omega (arith, room, count, same) in
+    let few : length (cursors_of h c.args.s) < CURSORS = let room = c.if-session-ge-CURSORS.false in let count = c.session.ensures.cursors in let same = its.2 in omega (arith, room, count, same) in
     let in_tables : is_table h c.args.table ≡ true =
     subst (λ (z : Shape). nat_le 1 c.args.table && nat_le c.args.table z.tables ≡ true) (c.shape.ensures.shape ∙ st.shape)
     (and_from (nat_le 1 c.args.table) (nat_le c.args.table c.shape.result.tables) (le-leb 1 c.args.table c.in_ok-check_table.ensures.table.0) (le-leb c.args.table c.shape.result.tables c.in_ok-check_table.ensures.table.1)) in
-    let opened : Cursor = record { table = c.args.table; lo = c.args.lo; hi = c.args.hi; scn = c.snapshot_at.result; own = c.session-session.result.own; upto = c.session-session.result.length; last = None; present = true } in
-    let same : opened ≡ cursor_opened h k c.args.table c.args.lo c.args.hi = same_cursor c.args.table c.args.lo c.args.hi c.snapshot_at.result (snapshot_at (last_scn h.commits) k.isolation) c.session-session.result.length k.count c.session-session.result.own k.own (c.snapshot_at.ensures ∙ (ap (λ (n : ℕ). snapshot_at n c.session-session.result.isolation) here.knows.scn ∙ ap (snapshot_at (last_scn h.commits)) c.session-session.ensures.isolation)) c.session-session.ensures.own c.session-session.ensures.length in
+    let opened : Cursor = c.cursor_over-cursor.result in
+    let same : opened ≡ cursor_opened h k c.args.table c.args.lo c.args.hi = c.cursor_over-cursor.ensures ∙ (ap (λ (m : Kept). opened_now m c.args.s c.args.table c.args.lo c.args.hi) (sym c.memory.view_is) ∙ opened_at h old c.args.s c.args.table c.args.lo c.args.hi here.knows.scn) in
     subst (λ (m : Kept). Does s h call machine.Done (record { memory = m; store = store }) (record { memory = now; store = store })) c.memory.view_is
     (does_cursors s st.told (laws_of g) h call machine.Done c.args.s (cursors_of h c.args.s ++ opened_cursor h c.args.s name c.args.table c.args.lo c.args.hi ∷ []) (record { memory = old; store = store }) (record { memory = now; store = store }) here going
     (there.0, (let n = st.knows.sixteen in omega (arith, there, n)))

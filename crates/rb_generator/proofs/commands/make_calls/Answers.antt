@@ -2,7 +2,7 @@ use Rattle.std.proofs.Common.{◌≡◌, ◌<◌, ℕ, Bool, false, refl, sym, �
 use Rattle.std.proofs.lemmas.Result.{err_from_is_err_and}
 use Rattle.std.specs.Result.{is_err}
 use Rattle.rb_base.specs.declared.shape.Shape.{Shape}
-use Rattle.rb_calls.proofs.CallLemmas.{did_call, ends_calls, on_calls}
+use Rattle.rb_calls.proofs.CallLemmas.{did_call}
 use Rattle.rb_calls.specs.Since.{IsSince, StandsAs, since_same, since_joined, engine_outside}
 use Rattle.rb_engine.specs.Does.{EngineView}
 use Rattle.rb_generator.specs.Answered.{CallsAnswered}
@@ -47,7 +47,7 @@ loop-k-preserved g c =
           (λ n reached on. did_call g.T.Store n _ _ c.loop-k.engine c.answer-answer.new.engine _ reached on o.made (λ now once. once))
           (λ n k so once. calls_more m n k _ _ _ c.loop-k.k (answer_of c.answer-answer.result c.answer-answer.new.row) _ _ _ so
           (subst (λ (end : ℕ). c.loop-k.k < end) (c.calls_of-k-end.ensures ∙ ap (λ (x : Shape). most_calls x (command_of c.args.command.now)) (c.shape.ensures.shape ∙ is.engine.shape)) c.loop-k-test.true)
-          once (t.counted c.answer-answer.new.row) (on_calls c.answer-answer.result c.answer-answer.new.row c.in-Row.is));
+          once (t.counted c.answer-answer.new.row) (sym (c.goes_on.ensures c.answer-answer.new.row) ∙ c.if-not-goes_on.false));
       few = omega (arith, i.few, t.few);
       same = record { shape = o.made.same.shape ∙ i.same.shape; slots = o.made.same.slots ∙ i.same.slots };
       disk = o.made.disk.still fine ∙ i.disk;
@@ -67,8 +67,8 @@ returns-in_err-note-clause-did g c = λ m is going.
     (subst (λ (end : ℕ). c.loop-k.k < end) (c.calls_of-k-end.ensures ∙ ap (λ (x : Shape). most_calls x (command_of c.args.command.now)) (c.shape.ensures.shape ∙ is.engine.shape)) c.loop-k-test.true)
     once (t.counted c.answer-answer.new.row) (sym (t.fault c.answer-answer.new.row) ∙ ap is_err c.in_err-note.was)))
 
-pub returns-in_default : goal.returns-in_default
-returns-in_default g c =
+pub returns-then-not-goes_on : goal.returns-then-not-goes_on
+returns-then-not-goes_on g c =
     let i = c.loop-k.invariant in
     let o = c.answer-answer.ensures in
     let t = c.note.ensures in
@@ -81,7 +81,7 @@ returns-in_default g c =
           subst (λ (fault : Bool). HasCounted (CallsAnswered m engine_outside (command_of c.args.command.now) (most_calls m.state.shape (command_of c.args.command.now)) 0) k c.args.counts.now c.note.new.self fault) fine
           (calls_last m n k _ _ _ c.loop-k.k (answer_of c.answer-answer.result c.answer-answer.new.row) _ _ _ so
           (subst (λ (x : Shape). c.loop-k.k < most_calls x (command_of c.args.command.now)) is.engine.shape here)
-          once (t.counted c.answer-answer.new.row) (ends_calls _ _ c.in_default.not-Row c.in_default.not-Marked)));
+          once (t.counted c.answer-answer.new.row) (sym (c.goes_on.ensures c.answer-answer.new.row) ∙ c.if-not-goes_on.true)));
       few = omega (arith, i.few, t.few, here);
       same = record { shape = o.made.same.shape ∙ i.same.shape; slots = o.made.same.slots ∙ i.same.slots };
       disk = record { no_less = omega (arith, o.made.disk.still fine, i.disk); cause = tt; still = o.made.disk.still fine ∙ i.disk };

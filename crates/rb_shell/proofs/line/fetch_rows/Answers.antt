@@ -1,4 +1,4 @@
-use Rattle.std.proofs.Common.{inl, ◌≡◌, ◌<◌, ◌≤◌, ◌+◌, ℕ, false, List, [], length, Result, Err, Option, None, Some, IfSome, refl, sym, ◌∙◌, ap, subst, arith}
+use Rattle.std.proofs.Common.{◌≡◌, ◌<◌, ◌≤◌, ◌+◌, ℕ, false, List, [], length, Result, Err, Option, None, Some, IfSome, refl, sym, ◌∙◌, ap, subst, arith}
 use Rattle.std.proofs.lemmas.Result.{err_from_is_err_and}
 use Rattle.rb_base.specs.Counts.{err_is}
 use Rattle.rb_lines.proofs.Dids.{did_as, did_on}
@@ -12,10 +12,8 @@ use Rattle.rb_model.specs.Lines as lines
 use Rattle.rb_model.specs.Names.{name_text}
 use Rattle.rb_engine.specs.Ahead.{RowsAhead}
 use Rattle.rb_engine.specs.Does.{EngineView}
-use Rattle.rb_calls.specs.Fits.{FitsCaller}
 use Rattle.rb_calls.specs.Since.{IsSince, StandsAs, since_same, since_joined, engine_outside}
 use Rattle.rb_shell.specs.Steps.{Calls, SaidAs}
-use Rattle.rb_calls.proofs.CallLemmas.{ends_calls, on_calls}
 use Rattle.rb_shell.proofs.SaidLemmas.{calls_more, calls_stop, calls_fault, calls_end, so_far_none}
 use Rattle.rb_shell.proofs.line.fetch_rows.Given.{Over}
 use Rattle.rb_shell.proofs.line.fetch_rows.Goals as goal
@@ -64,12 +62,12 @@ loop-k-init g c = record {
 pub loop-k-preserved : goal.loop-k-preserved
 loop-k-preserved g c =
     let i = c.loop-k.invariant in
-    let o = c.in_ok-fetch_once.ensures in
+    let o = c.in_ok-answer.ensures in
     record {
       ahead = o.ahead;
       so_far = λ m is going. did_on c.args.engine.now c.loop-k.engine c.fetch_once.new.engine m _ _ _ (λ a b d h n k. since_joined a b d h n k) (i.so_far m is going) (λ n so. so.going)
           (λ n reached on. o.did n reached on)
-          (λ n k so calls. calls_more m n k _ _ c.loop-k._k c.fetch_once.new.row g.K.Sink.tells _ _ _ _ _ so c.in_ok-fetch_once.field-0 (on_calls c.in_ok-fetch_once.field-0 c.fetch_once.new.row (inl c.in-Row.is))
+          (λ n k so calls. calls_more m n k _ _ c.loop-k._k c.fetch_once.new.row g.K.Sink.tells _ _ _ _ _ so _ (sym (c.goes_on.ensures c.fetch_once.new.row) ∙ c.if-not-goes_on.false)
           calls);
       room = o.room;
       first = λ zero. absurd (let more : ◌≡◌ {A = ℕ} (c.loop-k._k + 1) 0 = zero in omega (arith, more));
@@ -78,28 +76,28 @@ loop-k-preserved g c =
       sink = o.sink.still refl ∙ i.sink;
     }
 
-pub returns-in_default : goal.returns-in_default
-returns-in_default g c =
+pub returns-then-not-goes_on : goal.returns-then-not-goes_on
+returns-then-not-goes_on g c =
     let i = c.loop-k.invariant in
-    let o = c.in_ok-fetch_once.ensures in
+    let o = c.in_ok-answer.ensures in
     record {
       did = λ m is going. did_on c.args.engine.now c.loop-k.engine c.fetch_once.new.engine m _ _ _ (λ a b d h n k. since_joined a b d h n k) (i.so_far m is going) (λ n so. so.going)
           (λ n reached on. o.did n reached on)
-          (λ n k so calls. calls_stop m n k _ _ c.loop-k._k c.fetch_once.new.row g.K.Sink.tells _ _ _ _ _ so _ c.loop-k-test.true (ends_calls _ _ c.in_default.not-Row (λ seg writes lost is. subst (FitsCaller (Some c.args.s)) is o.fits)) calls);
+          (λ n k so calls. calls_stop m n k _ _ c.loop-k._k c.fetch_once.new.row g.K.Sink.tells _ _ _ _ _ so _ c.loop-k-test.true (sym (c.goes_on.ensures c.fetch_once.new.row) ∙ c.if-not-goes_on.true) calls);
       room = o.room;
       same = record { shape = o.same.shape ∙ i.same.shape; slots = o.same.slots ∙ i.same.slots };
       disk = record { no_less = omega (arith, o.disk.still refl refl, i.disk); cause = λ fault. cc; still = λ a b. o.disk.still refl refl ∙ i.disk };
       sink = record { no_less = omega (arith, o.sink.still refl, i.sink); cause = λ fault. cc; still = λ a. o.sink.still refl ∙ i.sink };
     }
 
-pub returns-in_err-fetch_once-clause-did : goal.returns-in_err-fetch_once-clause-did
-returns-in_err-fetch_once-clause-did g c = λ m is going.
+pub returns-in_err-answer-clause-did : goal.returns-in_err-answer-clause-did
+returns-in_err-answer-clause-did g c = λ m is going.
     let i = c.loop-k.invariant in
     let p = err_from_is_err_and c.from_residual.result c.from_residual.ensures.1 in
     did_on c.args.engine.now c.loop-k.engine c.fetch_once.new.engine m _ _ _ (λ a b d h n k. since_joined a b d h n k) (i.so_far m is going) (λ n so. so.going)
     (λ n reached on. c.fetch_once.ensures.did n reached on)
     (λ n k so calls.
-    let fault : c.fetch_once.result ≡ Err p.0 = c.in_err-fetch_once.was ∙ sym (ap (λ (x : StepFault). Err x) p.2) in
+    let fault : c.fetch_once.result ≡ Err p.0 = c.in_err-answer.was ∙ sym (ap (λ (x : StepFault). Err x) p.2) in
     let here = subst (λ (r : Result code.Outcome StepFault). Calls n engine_outside (Some c.args.s) (machine.Fetch c.args.s (name_text c.args.name.now)) c.fetch_once.new.row k g.K.Sink.tells (g.K.Sink.held c.loop-k.sink) c.loop-k.waiting.bytes.items (g.K.Sink.held c.fetch_once.new.sink) c.fetch_once.new.waiting.bytes.items r) fault calls in
     subst (λ (r : Result (Unit {0}) StepFault). SaidAs (CommandOut m engine_outside (lines.FetchLine c.args.s (name_text c.args.name.now) c.args.n)) (CallsBegun m engine_outside (lines.FetchLine c.args.s (name_text c.args.name.now) c.args.n)) k g.K.Sink.tells (g.K.Sink.held c.args.sink.now) (g.K.Sink.held c.fetch_once.new.sink) c.fetch_once.new.waiting.bytes.items r) (sym p.1)
     (calls_fault m n k _ _ c.loop-k._k c.fetch_once.new.row g.K.Sink.tells _ _ _ _ _ so p.0 (λ zero. sym (ap (λ (r : Result code.Outcome StepFault). err_is is_sink r) fault) ∙ c.fetch_once.ensures.first (i.first zero)) c.loop-k-test.true here))

@@ -13,7 +13,6 @@ use Rattle.rb_script.specs.Commands.{command_of}
 use Rattle.rb_engine.specs.Does.{EngineView}
 use Rattle.rb_calls.specs.Since.{IsSince, StandsAs, since_same, since_joined, engine_outside}
 use Rattle.rb_shell.specs.Steps.{Calls, SaidAs}
-use Rattle.rb_calls.proofs.CallLemmas.{ends_calls, on_calls}
 use Rattle.rb_shell.proofs.SaidLemmas.{calls_more, calls_stop, calls_fault, calls_end, so_far_none}
 use Rattle.rb_shell.proofs.line.make_calls.Given.{Over}
 use Rattle.rb_shell.proofs.line.make_calls.Goals as goal
@@ -52,11 +51,11 @@ loop-k-init g c = record {
 pub loop-k-preserved : goal.loop-k-preserved
 loop-k-preserved g c =
     let i = c.loop-k.invariant in
-    let o = c.in_ok-call_once.ensures in
+    let o = c.in_ok-answer.ensures in
     record {
       so_far = λ m is going. did_on c.args.engine.now c.loop-k.engine c.call_once.new.engine m _ _ _ (λ a b d h n k. since_joined a b d h n k) (i.so_far m is going) (λ n so. so.going)
           (λ n reached on. o.did n reached on)
-          (λ n k so calls. calls_more m n k _ _ c.loop-k.k c.call_once.new.row g.K.Sink.tells _ _ _ _ _ so c.in_ok-call_once.field-0 (on_calls c.in_ok-call_once.field-0 c.call_once.new.row c.in-Row.is)
+          (λ n k so calls. calls_more m n k _ _ c.loop-k.k c.call_once.new.row g.K.Sink.tells _ _ _ _ _ so _ (sym (c.goes_on.ensures c.call_once.new.row) ∙ c.if-not-goes_on.false)
           calls);
       room = o.room;
       first = λ zero. absurd (let more : ◌≡◌ {A = ℕ} (c.loop-k.k + 1) 0 = zero in omega (arith, more));
@@ -65,28 +64,28 @@ loop-k-preserved g c =
       sink = o.sink.still refl ∙ i.sink;
     }
 
-pub returns-in_default : goal.returns-in_default
-returns-in_default g c =
+pub returns-then-not-goes_on : goal.returns-then-not-goes_on
+returns-then-not-goes_on g c =
     let i = c.loop-k.invariant in
-    let o = c.in_ok-call_once.ensures in
+    let o = c.in_ok-answer.ensures in
     record {
       did = λ m is going. did_on c.args.engine.now c.loop-k.engine c.call_once.new.engine m _ _ _ (λ a b d h n k. since_joined a b d h n k) (i.so_far m is going) (λ n so. so.going)
           (λ n reached on. o.did n reached on)
-          (λ n k so calls. calls_stop m n k _ _ c.loop-k.k c.call_once.new.row g.K.Sink.tells _ _ _ _ _ so _ (subst (λ (end : ℕ). c.loop-k.k < end) (c.calls_of-k-end.ensures ∙ ap (λ (x : Shape). most_calls x (command_of c.args.command.now)) (c.shape.ensures.shape ∙ is.engine.shape)) c.loop-k-test.true) (ends_calls _ _ c.in_default.not-Row c.in_default.not-Marked) calls);
+          (λ n k so calls. calls_stop m n k _ _ c.loop-k.k c.call_once.new.row g.K.Sink.tells _ _ _ _ _ so _ (subst (λ (end : ℕ). c.loop-k.k < end) (c.calls_of-k-end.ensures ∙ ap (λ (x : Shape). most_calls x (command_of c.args.command.now)) (c.shape.ensures.shape ∙ is.engine.shape)) c.loop-k-test.true) (sym (c.goes_on.ensures c.call_once.new.row) ∙ c.if-not-goes_on.true) calls);
       room = o.room;
       same = record { shape = o.same.shape ∙ i.same.shape; slots = o.same.slots ∙ i.same.slots };
       disk = record { no_less = omega (arith, o.disk.still refl refl, i.disk); cause = λ fault. cc; still = λ a b. o.disk.still refl refl ∙ i.disk };
       sink = record { no_less = omega (arith, o.sink.still refl, i.sink); cause = λ fault. cc; still = λ a. o.sink.still refl ∙ i.sink };
     }
 
-pub returns-in_err-call_once-clause-did : goal.returns-in_err-call_once-clause-did
-returns-in_err-call_once-clause-did g c = λ m is going.
+pub returns-in_err-answer-clause-did : goal.returns-in_err-answer-clause-did
+returns-in_err-answer-clause-did g c = λ m is going.
     let i = c.loop-k.invariant in
     let p = err_from_is_err_and c.from_residual.result c.from_residual.ensures.1 in
     did_on c.args.engine.now c.loop-k.engine c.call_once.new.engine m _ _ _ (λ a b d h n k. since_joined a b d h n k) (i.so_far m is going) (λ n so. so.going)
     (λ n reached on. c.call_once.ensures.did n reached on)
     (λ n k so calls.
-    let fault : c.call_once.result ≡ Err p.0 = c.in_err-call_once.was ∙ sym (ap (λ (x : StepFault). Err x) p.2) in
+    let fault : c.call_once.result ≡ Err p.0 = c.in_err-answer.was ∙ sym (ap (λ (x : StepFault). Err x) p.2) in
     let here = subst (λ (r : Result code.Outcome StepFault). Calls n engine_outside (caller (command_of c.args.command.now)) (call_of (command_of c.args.command.now) c.loop-k.k) c.call_once.new.row k g.K.Sink.tells (g.K.Sink.held c.loop-k.sink) c.loop-k.waiting.bytes.items (g.K.Sink.held c.call_once.new.sink) c.call_once.new.waiting.bytes.items r) fault calls in
     subst (λ (r : Result (Unit {0}) StepFault). SaidAs (CommandOut m engine_outside (command_of c.args.command.now)) (CallsBegun m engine_outside (command_of c.args.command.now)) k g.K.Sink.tells (g.K.Sink.held c.args.sink.now) (g.K.Sink.held c.call_once.new.sink) c.call_once.new.waiting.bytes.items r) (sym p.1)
     (calls_fault m n k _ _ c.loop-k.k c.call_once.new.row g.K.Sink.tells _ _ _ _ _ so p.0 (λ zero. sym (ap (λ (r : Result code.Outcome StepFault). err_is is_sink r) fault) ∙ c.call_once.ensures.first (i.first zero)) (subst (λ (end : ℕ). c.loop-k.k < end) (c.calls_of-k-end.ensures ∙ ap (λ (x : Shape). most_calls x (command_of c.args.command.now)) (c.shape.ensures.shape ∙ is.engine.shape)) c.loop-k-test.true) here))

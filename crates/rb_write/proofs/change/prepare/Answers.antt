@@ -5,7 +5,7 @@ use Rattle.rb_write.proofs.Choices.{chain_short, choice_agrees, none_agrees}
 use Rattle.rb_write.proofs.Headers.{ready_is, turned_may, young_at}
 use Rattle.rb_write.proofs.Writers.{writer_there}
 use Rattle.rb_write.proofs.Written.{made_by, ready_blocks, Prepared}
-use Rattle.rb_write.specs.Asks.{adds_row, home_for, AreYoung, IsWriterOf}
+use Rattle.rb_write.specs.Asks.{adds_for, adds_in, home_for, AreYoung, IsWriterOf}
 use Rattle.rb_write.specs.Making.{Changes}
 use Rattle.rb_write.specs.Refusals.{has_failed, HasCause, Refuses, TakesWrite, TakesWriter}
 use Rattle.rb_write.specs.declared.ask.AttemptFault.{AttemptFault}
@@ -53,7 +53,7 @@ returns-in_err-cell-clause-cause g c told young may going =
       writer.0,
       writer.1,
       writer.2,
-      subst (λ (h : Home). Refuses fault h (adds_row ask.op) ask.key writer.0 writer.1 logged) home (c.in_err-cell.ensures.refused writer.0 writer.1 logged),
+      subst (λ (h : Home). Refuses fault h (adds_in h ask) ask.key writer.0 writer.1 logged) home (c.in_err-cell.ensures.refused writer.0 writer.1 logged),
     )
 
 pub returns-in_default-clause-cause : goal.returns-in_default-clause-cause
@@ -77,7 +77,7 @@ returns-in_default-clause-cause g c told young may going =
       x,
       ready,
       writer,
-      subst (λ (h : Home). TakesWrite h (adds_row ask.op) ask.key × HasNoChoice (home_entry h) x) home (c.in_ok-cell.ensures.takes, none),
+      subst (λ (h : Home). TakesWrite h (adds_in h ask) ask.key × HasNoChoice (home_entry h) x) home (c.in_ok-cell.ensures.takes, none),
     )
 
 pub returns-in_err-put_change-clause-cause : goal.returns-in_err-put_change-clause-cause
@@ -99,7 +99,7 @@ returns-in_err-put_change-clause-cause g c told young may going =
     let young_mid = both_ways AreYoung shape (s.shape_of mid) blocks (s.blocks mid) (sym logs.same_shape) (sym (logs.blocks told refl)) young in
     let writer = both_ways (λ (k : Shape) (l : List (List ℕ)). IsWriterOf k l ask.own x ready) (s.shape_of mid) shape (s.blocks mid) blocks logs.same_shape (logs.blocks told refl) (c.in_ok-xid.ensures.writer told young_mid) in
     let choice = choice_agrees (entry_at copy) (home_entry (home_of copy)) (λ j lt. sym (entry_read copy j free_entry lt)) x i c.in-Some.ensures in
-    let takes = subst (λ (h : Home). TakesWriter h (adds_row ask.op) ask.key x) home (takes_writer (home_of copy) (adds_row ask.op) ask.key x i c.in_ok-cell.ensures.takes choice) in
+    let takes = subst (λ (h : Home). TakesWriter h (adds_in h ask) ask.key x) home (takes_writer (home_of copy) (adds_in (home_of copy) ask) ask.key x i c.in_ok-cell.ensures.takes choice) in
     let fault = c.in_err-put_change.field-0.0 in
     let full = c.in_err-put_change.ensures.full in
     let logged = s.lsn old in
@@ -109,7 +109,7 @@ returns-in_err-put_change-clause-cause g c told young may going =
       x,
       ready,
       writer,
-      subst (λ (f : AttemptFault). Refuses f (home_for shape blocks ask) (adds_row ask.op) ask.key x ready logged) (sym full.1) (takes, full.2, refl, full.3),
+      subst (λ (f : AttemptFault). Refuses f (home_for shape blocks ask) (adds_for shape blocks ask) ask.key x ready logged) (sym full.1) (takes, full.2, refl, full.3),
     )
 
 pub returns-then-logged-ge-WORN-clause-cause : goal.returns-then-logged-ge-WORN-clause-cause
@@ -131,7 +131,7 @@ returns-then-logged-ge-WORN-clause-cause g c told young may going =
     let young_mid = both_ways AreYoung shape (s.shape_of mid) blocks (s.blocks mid) (sym logs.same_shape) (sym (logs.blocks told refl)) young in
     let writer = both_ways (λ (k : Shape) (l : List (List ℕ)). IsWriterOf k l ask.own x ready) (s.shape_of mid) shape (s.blocks mid) blocks logs.same_shape (logs.blocks told refl) (c.in_ok-xid.ensures.writer told young_mid) in
     let choice = choice_agrees (entry_at copy) (home_entry (home_of copy)) (λ j lt. sym (entry_read copy j free_entry lt)) x i c.in-Some.ensures in
-    let takes = subst (λ (h : Home). TakesWriter h (adds_row ask.op) ask.key x) home (takes_writer (home_of copy) (adds_row ask.op) ask.key x i c.in_ok-cell.ensures.takes choice) in
+    let takes = subst (λ (h : Home). TakesWriter h (adds_in h ask) ask.key x) home (takes_writer (home_of copy) (adds_in (home_of copy) ask) ask.key x i c.in_ok-cell.ensures.takes choice) in
     let late = c.writer.new.store in
     let logs_late = more_logs s old mid late [] [] true logs c.in_ok-xid.ensures.logs in
     let seg : x.seg < shape.segments = omega (arith, c.in_ok-xid.ensures.there, ap (λ (k : Shape). k.segments) logs.same_shape) in
@@ -189,7 +189,7 @@ returns-clause-made g c told young =
     let young_mid = both_ways AreYoung shape (s.shape_of mid) blocks (s.blocks mid) (sym logs.same_shape) (sym (logs.blocks told refl)) young in
     let writer = both_ways (λ (k : Shape) (l : List (List ℕ)). IsWriterOf k l ask.own x ready) (s.shape_of mid) shape (s.blocks mid) blocks logs.same_shape (logs.blocks told refl) (c.in_ok-xid.ensures.writer told young_mid) in
     let choice = choice_agrees (entry_at copy) (home_entry (home_of copy)) (λ j lt. sym (entry_read copy j free_entry lt)) x i c.in-Some.ensures in
-    let takes = subst (λ (h : Home). TakesWriter h (adds_row ask.op) ask.key x) home (takes_writer (home_of copy) (adds_row ask.op) ask.key x i c.in_ok-cell.ensures.takes choice) in
+    let takes = subst (λ (h : Home). TakesWriter h (adds_in h ask) ask.key x) home (takes_writer (home_of copy) (adds_in (home_of copy) ask) ask.key x i c.in_ok-cell.ensures.takes choice) in
     let same = c.shape-shape.ensures.shape in
     let look = (env_of shape blocks).look in
     let block = c.home_block-block.result in
@@ -246,7 +246,7 @@ returns-clause-takes g c told young =
     let number = c.home_block-block.ensures.number ∙ ap (λ (k : Shape). home_block k ask.table ask.key) c.shape-shape.ensures.shape in
     let home : home_of copy ≡ home_for shape blocks ask = c.in_ok-clean_home.ensures.cleaned told young
     ∙ ap (λ (b : ℕ). cleaned_home (env_of shape blocks).look (home_of (block_of blocks b))) number in
-    subst (λ (h : Home). TakesWrite h (adds_row ask.op) ask.key) home c.in_ok-cell.ensures.takes
+    subst (λ (h : Home). TakesWrite h (adds_in h ask) ask.key) home c.in_ok-cell.ensures.takes
 
 pub returns-in_err-xid-clause-logs : goal.returns-in_err-xid-clause-logs
 returns-in_err-xid-clause-logs g c =
