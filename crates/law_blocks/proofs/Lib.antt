@@ -37,5 +37,6 @@ pub mod StandingCleaned
 pub mod StandingDone
 pub mod StandingWritten
 pub mod States
+pub mod TellBooks
 pub mod WriteMachine
 pub mod WriteMoves

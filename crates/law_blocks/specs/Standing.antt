@@ -6,11 +6,13 @@ use Rattle.rb_base.specs.Fields.{number_at}
 use Rattle.rb_base.specs.declared.shape.Shape.{Shape}
 use Rattle.rb_heap.specs.Homes.{home_of}
 use Rattle.rb_heap.specs.Soundness.{IsHomeSound}
+use Rattle.rb_model.specs.Book.{Book}
 use Rattle.rb_model.specs.Rows.{TableRow, InOrder}
+use Rattle.rb_segment.specs.Books.{IsBook}
 use Rattle.rb_segment.specs.Header.{Segment, segment_of}
 use Rattle.rb_segment.specs.Segments.{commit_scn}
 use Rattle.law_blocks.specs.Says.{says, walk_home}
-use Rattle.law_blocks.specs.Values.{Past, StandingAs, wraps_of, owed}
+use Rattle.law_blocks.specs.Values.{Past, Running, StandingAs, wraps_of, owed}
 use Rattle.law_home.specs.Walk.{Change, Env, Home}
 
 abbrev pub segments_of : Shape → List (List ℕ) → ℕ → Segment
@@ -41,7 +43,14 @@ pub record Standing (shape : Shape) (blocks : List (List ℕ)) (past : Past) (li
   pub stands : StandingAs shape (commit_scn shape blocks) (logged_of shape blocks) (segments_of shape blocks)
       (homes_of shape blocks) past lives
 
--- The blocks have that number and these rows, once what is under way is taken back.
+-- each segment's header tells a book
+abbrev pub TellBooks : Shape → List (List ℕ) → Type 0
+TellBooks shape blocks = (g : ℕ) → g < shape.segments → (b : Book) × IsBook (segments_of shape blocks g).header b
+
+-- The blocks have that number and these rows, once what is under way is taken back. What is under way there is what an
+-- engine left.
 pub record SoundAs (shape : Shape) (blocks : List (List ℕ)) (number : ℕ) (rows : List TableRow) : Type 0 where
   pub lives : List (List Change)
   pub standing : Standing shape blocks (record { base = number; rows = rows; list = [] }) lives
+  pub running : Running shape (segments_of shape blocks)
+  pub books : TellBooks shape blocks

@@ -7,6 +7,7 @@ use Rattle.rb_base.specs.Blocks.{home_block}
 use Rattle.rb_base.specs.declared.ids.Xid.{Xid}
 use Rattle.rb_base.specs.declared.shape.Shape.{Shape}
 use Rattle.rb_model.specs.Change as model
+use Rattle.rb_model.specs.Book.{book_at}
 use Rattle.rb_model.specs.Rows.{TableRow, InOrder, changed_by, last_scn, over, rows_at, value_of}
 use Rattle.rb_model.specs.State.{State}
 use Rattle.rb_model.proofs.RowLemmas.{ordered-over}
@@ -108,6 +109,8 @@ module _ (h : State) (xids : List Xid) (blocks : List (List ℕ)) (stand : Block
       let forgotten = standing_forgotten h.shape (segments_of h.shape blocks) (homes_of h.shape blocks) past rows_now is_after lives (commit_scn h.shape blocks) (logged_of h.shape blocks) stood.stands in
       let last_is : last past.base past.list ≡ last_scn h.commits = sym stood.stands.number ∙ number in record {
         lives = lives;
+        running = stand.tell.running;
+        books = λ g g_in. (book_at h.books g, stand.tell.books g g_in);
         standing = subst (λ (n : ℕ). Standing h.shape blocks (record { base = n; rows = rows_now; list = [] }) lives) last_is (record {
           whole = stood.whole;
           homes_sound = stood.homes_sound;

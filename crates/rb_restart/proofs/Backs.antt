@@ -28,11 +28,12 @@ use Rattle.rb_segment.specs.Header.{Header, Segment, record_in, slot_in}
 use Rattle.rb_segment.specs.Moves.{taken_back}
 use Rattle.rb_segment.specs.Segments.{commit_scn}
 use Rattle.law_blocks.specs.Groups.{IsPutBack, header_at, last_record}
-use Rattle.law_blocks.specs.Standing.{SoundAs, Standing, homes_of, logged_of, segments_of}
-use Rattle.law_blocks.specs.Values.{IsSaved, Listed, Past, slot_of, wraps_of, xid_in}
+use Rattle.law_blocks.proofs.TellBooks.{back_books}
+use Rattle.law_blocks.specs.Standing.{SoundAs, Standing, homes_of, logged_of, segments_of, TellBooks}
+use Rattle.law_blocks.specs.Values.{IsSaved, Listed, Past, slot_of, wraps_of, xid_in, Running}
 use Rattle.law_blocks.specs.Writes.{back_segment}
 use Rattle.law_blocks.proofs.Addresses.{listed_reads}
-use Rattle.law_blocks.proofs.BlocksBack.{Homes2, blocks_back, logged, put_values}
+use Rattle.law_blocks.proofs.BlocksBack.{Homes2, blocks_back, blocks_running_back, logged, put_values}
 use Rattle.law_blocks.proofs.OwedMoves.{owed_back}
 use Rattle.law_blocks.proofs.SegmentRead.{RowsOrHeader, segments_put_back}
 use Rattle.law_blocks.proofs.SlotsMoved.{slot_other}
@@ -88,7 +89,7 @@ record Newest (shape : Shape) (blocks : List (List ℕ)) (lives : List (List Cha
   read : newest_record shape blocks (xid_of t wrap) ≡ u
   last : last_record shape blocks t ≡ u
 
-module _ (shape : Shape) (number : ℕ) (rows : List TableRow) (before : List (List ℕ)) (lives : List (List Change)) (stand : Standing shape before (record { base = number; rows = rows; list = [] }) lives) (t wrap : ℕ) (t_in : t < SLOTS * shape.segments) (n : ℕ) (live : HasLive shape before (xid_of t wrap) (n + 1)) where
+module _ (shape : Shape) (number : ℕ) (rows : List TableRow) (before : List (List ℕ)) (lives : List (List Change)) (stand : Standing shape before (record { base = number; rows = rows; list = [] }) lives) (running : Running shape (segments_of shape before)) (books : TellBooks shape before) (t wrap : ℕ) (t_in : t < SLOTS * shape.segments) (n : ℕ) (live : HasLive shape before (xid_of t wrap) (n + 1)) where
   abbrev Segs : ℕ → Segment
   Segs = segments_of shape before
 
@@ -186,8 +187,13 @@ module _ (shape : Shape) (number : ℕ) (rows : List TableRow) (before : List (L
       pub back_puts_at : PutsBack shape number rows (group ∷ []) before now
       back_puts_at =
           one_puts shape number rows group before now
-          (record { lives = lives; standing = stand })
-          (record { lives = set lives t newest.more; standing = blocks_back shape before now Past0 lives t newest.u newest.ch newest.more shaped t_in stand newest.has newest.there puts })
+          (record { lives = lives; standing = stand; running = running; books = books })
+          (record {
+            lives = set lives t newest.more;
+            standing = blocks_back shape before now Past0 lives t newest.u newest.ch newest.more shaped t_in stand newest.has newest.there puts;
+            running = blocks_running_back shape before now Past0 lives t newest.u newest.ch newest.more shaped t_in stand newest.has newest.there puts running;
+            books = back_books shape before now Past0 lives t newest.u newest.ch newest.more shaped t_in stand newest.has newest.there puts books;
+          })
           made
           (logged shape before now Past0 lives t newest.u newest.ch newest.more shaped t_in stand newest.has newest.there puts)
           (let o = owed_back shape (commit_scn shape before) (logged_of shape before) Segs (homes_of shape before) Past0 lives stand.stands t t_in (segments_of shape now) (Homes2 shape before now Past0 lives t newest.u newest.ch newest.more shaped t_in stand newest.has newest.there puts) newest.u (put_values shape before now Past0 lives t newest.u newest.ch newest.more shaped t_in stand newest.has newest.there puts) newest.ch newest.more newest.has in
@@ -203,7 +209,7 @@ module _ (shape : Shape) (number : ℕ) (rows : List TableRow) (before : List (L
   pub can_be_back : (n : ℕ) → HasLive shape before x (n + 1) → CanBack shape before x
   can_be_back n live =
       let is = xid_is x few in
-      subst (CanBack shape before) (sym is) (can_back shape number rows before sound.lives sound.standing (SLOTS * x.seg + x.slot) x.wrap (omega (arith, there, few)) n (subst (λ (z : Xid). HasLive shape before z (n + 1)) is live))
+      subst (CanBack shape before) (sym is) (can_back shape number rows before sound.lives sound.standing sound.running sound.books (SLOTS * x.seg + x.slot) x.wrap (omega (arith, there, few)) n (subst (λ (z : Xid). HasLive shape before z (n + 1)) is live))
 
   pub back_puts : (now : List (List ℕ)) (n : ℕ) → IsShape shape → HasLive shape before x (n + 1) → IsGroup (back_group shape before x) → now ≡ after_group (logged_of shape before + 1) (back_group shape before x) before → TakesBack shape x (newest_record shape before x) before now → PutsBack shape number rows (back_group shape before x ∷ []) before now
   back_puts now n shaped live =
@@ -211,4 +217,4 @@ module _ (shape : Shape) (number : ℕ) (rows : List TableRow) (before : List (L
       let Fact : Xid → Type 0 = λ z.
       IsGroup (back_group shape before z) → now ≡ after_group (logged_of shape before + 1) (back_group shape before z) before → TakesBack shape z (newest_record shape before z) before now
       → PutsBack shape number rows (back_group shape before z ∷ []) before now in
-      subst Fact (sym is) (back_puts_at shape number rows before sound.lives sound.standing (SLOTS * x.seg + x.slot) x.wrap (omega (arith, there, few)) n (subst (λ (z : Xid). HasLive shape before z (n + 1)) is live) now shaped)
+      subst Fact (sym is) (back_puts_at shape number rows before sound.lives sound.standing sound.running sound.books (SLOTS * x.seg + x.slot) x.wrap (omega (arith, there, few)) n (subst (λ (z : Xid). HasLive shape before z (n + 1)) is live) now shaped)

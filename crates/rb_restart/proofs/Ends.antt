@@ -22,8 +22,9 @@ use Rattle.rb_segment.specs.Header.{Header, Segment, header_of, slot_in}
 use Rattle.rb_segment.specs.Moves.{ended, with_header}
 use Rattle.rb_segment.specs.Segments.{commit_scn}
 use Rattle.law_blocks.specs.Groups.{IsEnded, header_at}
-use Rattle.law_blocks.specs.Standing.{SoundAs, Standing, homes_of, logged_of, segments_of}
-use Rattle.law_blocks.specs.Values.{Past, owed, slot_of}
+use Rattle.law_blocks.proofs.TellBooks.{end_books}
+use Rattle.law_blocks.specs.Standing.{SoundAs, Standing, homes_of, logged_of, segments_of, TellBooks}
+use Rattle.law_blocks.specs.Values.{Past, owed, slot_of, Running}
 use Rattle.law_blocks.specs.Writes.{ended_segments}
 use Rattle.law_blocks.proofs.BlocksDone.{end_keeps}
 use Rattle.law_blocks.proofs.Group.{logged_next}
@@ -52,7 +53,7 @@ no_changes : (chs : List Change) → length chs ≡ 0 → chs ≡ []
 no_changes [] is = refl
 no_changes (ch ∷ chs) is = absurd (omega (arith, is))
 
-module _ (shape : Shape) (number : ℕ) (rows : List TableRow) (before : List (List ℕ)) (lives : List (List Change)) (stand : Standing shape before (record { base = number; rows = rows; list = [] }) lives) (shaped : IsShape shape) (t wrap : ℕ) (t_in : t < SLOTS * shape.segments) (live : HasLive shape before (xid_of t wrap) 0) (now : List (List ℕ)) where
+module _ (shape : Shape) (number : ℕ) (rows : List TableRow) (before : List (List ℕ)) (lives : List (List Change)) (stand : Standing shape before (record { base = number; rows = rows; list = [] }) lives) (running : Running shape (segments_of shape before)) (books : TellBooks shape before) (shaped : IsShape shape) (t wrap : ℕ) (t_in : t < SLOTS * shape.segments) (live : HasLive shape before (xid_of t wrap) 0) (now : List (List ℕ)) where
   abbrev Segs : ℕ → Segment
   Segs = segments_of shape before
 
@@ -116,8 +117,9 @@ module _ (shape : Shape) (number : ℕ) (rows : List TableRow) (before : List (L
 
     pub end_puts_at : PutsBack shape number rows (end_group shape before X ∷ []) before now
     end_puts_at = one_puts shape number rows (end_group shape before X) before now
-        (record { lives = lives; standing = stand })
-        (record { lives = set lives t []; standing = (end_keeps shape before now Past0 lives stand t t_in active empty ends).0 })
+        (record { lives = lives; standing = stand; running = running; books = books })
+        (let keeps = end_keeps shape before now Past0 lives stand t t_in active empty ends in
+        record { lives = set lives t []; standing = keeps.0; running = keeps.1 running; books = end_books shape before now Past0 lives t shaped t_in stand active ends books })
         made
         logged
         (let o = owed_ended shape (commit_scn shape before) (logged_of shape before) Segs (homes_of shape before) Past0 lives stand.stands t t_in active empty in
@@ -142,6 +144,6 @@ end_puts shape number rows before now x sound shaped there few live =
     let has = subst (λ (z : Xid). HasLive shape before z 0) is live in
     let t_in : t < SLOTS * shape.segments = omega (arith, there, few) in
     subst Fact (sym is) (λ made header. (
-      end_puts_at shape number rows before sound.lives sound.standing shaped t x.wrap t_in has now made header,
-      idle_at shape number rows before sound.lives sound.standing shaped t x.wrap t_in has now made header,
+      end_puts_at shape number rows before sound.lives sound.standing sound.running sound.books shaped t x.wrap t_in has now made header,
+      idle_at shape number rows before sound.lives sound.standing sound.running sound.books shaped t x.wrap t_in has now made header,
     ))

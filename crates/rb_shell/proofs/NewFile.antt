@@ -11,19 +11,20 @@ use Rattle.rb_heap.specs.Homes as heap
 use Rattle.rb_layout.specs.Fresh.{fresh_are_blocks}
 use Rattle.rb_layout.specs.Regions.{file_version, fresh_file, shape_of}
 use Rattle.rb_layout.specs.declared.layout.Layout.{Layout}
+use Rattle.rb_model.specs.Book.{fresh_book}
 use Rattle.rb_model.specs.State.{opened}
 use Rattle.rb_recovery.proofs.Sound.{sound_as}
 use Rattle.rb_recovery.specs.Opens.{books_of}
 use Rattle.rb_restart.proofs.Slots.{owed_is, owed_none}
 use Rattle.rb_ring.specs.Ring.{extent_ord, extent_newest, head_extent, head_records, record_count, lost_number}
-use Rattle.rb_segment.proofs.Fresh.{all_same, fresh_slot}
-use Rattle.rb_segment.specs.Books.{fresh_header}
+use Rattle.rb_segment.proofs.Fresh.{all_same, fresh_is_book, fresh_slot}
+use Rattle.rb_segment.specs.Books.{IsBook, fresh_header}
 use Rattle.rb_segment.specs.Header.{Header, header_of, segment_of, slot_in, undo_block}
 use Rattle.rb_segment.specs.Segments.{commit_scn, owed_in}
 use Rattle.rb_shell.proofs.Restarting.{head_small}
 use Rattle.rb_shell.specs.Runs.{IsSound}
 use Rattle.rb_sound.proofs.Fresh.{homes_fresh}
-use Rattle.law_blocks.proofs.Fresh.{fresh_stands}
+use Rattle.law_blocks.proofs.Fresh.{fresh_running, fresh_stands}
 use Rattle.law_blocks.proofs.SegmentRead.{header_is, scn_least}
 use Rattle.law_blocks.specs.Fresh.{IsFresh, no_past}
 use Rattle.law_blocks.specs.Says.{walk_home}
@@ -105,6 +106,8 @@ module _ (shape : Shape) where
   sound_fresh : logged_of shape Blocks ≡ 0 → SoundAs shape Blocks 0 []
   sound_fresh unlogged = record {
     lives = Lives;
+    running = fresh_running shape (segments_of shape Blocks) (homes_of shape Blocks) are_fresh;
+    books = λ g g_in. (fresh_book, subst (λ (z : Header). IsBook z fresh_book) (sym (are_fresh.headers g g_in)) fresh_is_book);
     standing = record {
       whole = fresh_are_blocks shape;
       homes_sound = λ b lt. homes_fresh shape (commit_scn shape Blocks) (wraps_of (segments_of shape Blocks)) (b % shape.blocks) b lt;
