@@ -29,7 +29,7 @@ use Rattle.law_home.proofs.Lives.{own_within}
 use Rattle.law_home.specs.Walk.{Change, Env, own}
 use Rattle.law_opened.proofs.Books.{found_tells, slot_there}
 use Rattle.law_opened.proofs.Told.{AreTold, are_told, told_back}
-use Rattle.law_opened.specs.Opened.{dead_number, dead_session, found_book, found_books, found_owner, found_slot, opened, told_change, told_changes, turns_of}
+use Rattle.law_opened.specs.Opened.{dead_number, dead_session, found_owner, found_slot, opened_with, owned_book, owned_books, told_change, told_changes, turns_of}
 
 all_append : {X : Type 0} (P : X → Type 0) (xs : List X) (y : X) → AllByRecursion P xs → P y → AllByRecursion P (xs ++ y ∷ [])
 all_append P [] y all last = (last, tt)
@@ -73,7 +73,7 @@ module _ (shape : Shape) (blocks : List (List ℕ)) (number : ℕ) (rows : List 
   Lives = left.lives
 
   abbrev First : State
-  First = opened shape number rows (found_books shape blocks) Lives
+  First = opened_with shape number rows (owned_books shape blocks) Lives
 
   abbrev Now : Env
   Now = env_of shape blocks
@@ -87,13 +87,13 @@ module _ (shape : Shape) (blocks : List (List ℕ)) (number : ℕ) (rows : List 
   told : (t : ℕ) → t < SLOTS * shape.segments → AreTold shape (xid_by Segs t) (own Lives t)
   told = are_told shape in_range.few_blocks.0 blocks (record { base = number; rows = rows; list = [] }) Lives stand
 
-  books_many : length (found_books shape blocks) ≡ shape.segments
-  books_many = length-map-range_with_len (λ (g : ℕ). found_book (Segs g).header g) 0 shape.segments
+  books_many : length (owned_books shape blocks) ≡ shape.segments
+  books_many = length-map-range_with_len (λ (g : ℕ). owned_book (Segs g).header g) 0 shape.segments
 
-  book_is : (g : ℕ) → g < shape.segments → book_at (found_books shape blocks) g ≡ found_book (Segs g).header g
-  book_is g there = get_or-map-range_with_len (λ (k : ℕ). found_book (Segs k).header k) 0 shape.segments g g fresh_book there (omega arith)
+  book_is : (g : ℕ) → g < shape.segments → book_at (owned_books shape blocks) g ≡ owned_book (Segs g).header g
+  book_is g there = get_or-map-range_with_len (λ (k : ℕ). owned_book (Segs k).header k) 0 shape.segments g g fresh_book there (omega arith)
 
-  is_book : (g : ℕ) → g < shape.segments → IsBook (Segs g).header (book_at (found_books shape blocks) g)
+  is_book : (g : ℕ) → g < shape.segments → IsBook (Segs g).header (book_at (owned_books shape blocks) g)
   is_book g there =
       let b = left.books g there in
       subst (IsBook (Segs g).header) (sym (book_is g there)) (found_tells (Segs g).header (commit_scn shape blocks) g (stand.stands.in_order g there).header b.0 b.1)
@@ -110,7 +110,7 @@ module _ (shape : Shape) (blocks : List (List ℕ)) (number : ℕ) (rows : List 
       ∙ ap (λ (n : ℕ). found_owner (Segs (t / SLOTS)).header (dead_number n) (slot_of Segs t)) number)
 
   owner_past : (t : ℕ) → SLOTS * shape.segments ≤ t → owner_at First t ≡ None
-  owner_past t past = ap (λ (b : Book). slot_owner b (t % SLOTS)) (get_or_past (found_books shape blocks) (t / SLOTS) fresh_book (omega (arith, past, books_many))) ∙ ap (λ (s : BookSlot). s.owner) (all_same free_slot SLOTS (t % SLOTS))
+  owner_past t past = ap (λ (b : Book). slot_owner b (t % SLOTS)) (get_or_past (owned_books shape blocks) (t / SLOTS) fresh_book (omega (arith, past, books_many))) ∙ ap (λ (s : BookSlot). s.owner) (all_same free_slot SLOTS (t % SLOTS))
 
   -- an owner is the dead transaction of its slot
   owner_dead : (s t : ℕ) → Owns First s t → (t < SLOTS * shape.segments) × (s ≡ dead_number t)

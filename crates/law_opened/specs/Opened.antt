@@ -1,10 +1,9 @@
 -- The state that the blocks of a file open to where nothing is put back: each Active table slot is a dead
 -- transaction's. It is a session behind the sixteen, number 17 + t for slot t, with its live changes alone, which no
 -- call can name.
-use Rattle.std.specs.Prelude.{◌+◌, ◌*◌, ◌/◌, ◌==◌, ◌++◌, cond, false, ℕ, zero, suc, List, [], ◌∷◌, map, replicate}
-use Rattle.std.specs.Prelude.{Option, Some, None}
+use Rattle.std.specs.Prelude.{◌+◌, ◌*◌, ◌/◌, ◌==◌, ◌++◌, cond, false, ℕ, zero, suc}
+use Rattle.std.specs.Prelude.{List, [], ◌∷◌, map, replicate, Option, Some, None}
 use Rattle.std.specs.List.{range_with_len}
-use Rattle.rb_base.specs.Blocks.{IsShape}
 use Rattle.rb_base.specs.declared.shape.Shape.{Shape}
 use Rattle.rb_base.specs.declared.sizes.TheConstants.{ACTIVE}
 use Rattle.rb_model.specs.Book.{Book, BookSlot, Owner}
@@ -14,8 +13,7 @@ use Rattle.rb_model.specs.Rows.{TableRow}
 use Rattle.rb_segment.specs.Books.{book_of, ring_count}
 use Rattle.rb_segment.specs.Header.{Header, has_bit, ord_in, slot_in}
 use Rattle.rb_txntable.specs.declared.slots.TableSlot.{TableSlot}
-use Rattle.law_blocks.specs.Standing.{SoundAs, segments_of}
-use Rattle.law_blocks.specs.States.{BlocksStand}
+use Rattle.law_blocks.specs.Standing.{segments_of}
 use Rattle.law_home.specs.Walk.{Change}
 
 -- the change of a table slot as the machine's: its home tells the table
@@ -38,7 +36,8 @@ dead_number t = session_count + 1 + t
 -- the turns of n extents from e on that a slot's bits name
 abbrev pub turns_from : Header → ℕ → ℕ → ℕ → List ℕ
 turns_from h bits e zero = []
-turns_from h bits e (suc n) = cond (has_bit bits e) (ord_in h e ∷ turns_from h bits (e + 1) n) (turns_from h bits (e + 1) n)
+turns_from h bits e (suc n) =
+    cond (has_bit bits e) (ord_in h e ∷ turns_from h bits (e + 1) n) (turns_from h bits (e + 1) n)
 
 -- and of all
 abbrev pub turns_of : Header → ℕ → List ℕ
@@ -54,17 +53,18 @@ abbrev pub found_slot : Header → ℕ → TableSlot → BookSlot
 found_slot h session slot = record { newest = slot.newest; owner = found_owner h session slot }
 
 -- the book of segment g, whose slots are numbered from 16 g on
-abbrev pub found_book : Header → ℕ → Book
-found_book h g = record (book_of h (ring_count h)) {
+abbrev pub owned_book : Header → ℕ → Book
+owned_book h g = record (book_of h (ring_count h)) {
   slots = map (λ i. found_slot h (dead_number (16 * g + i)) (slot_in h i)) (range_with_len 0 16);
 }
 
-abbrev pub found_books : Shape → List (List ℕ) → List Book
-found_books shape blocks = map (λ g. found_book (segments_of shape blocks g).header g) (range_with_len 0 shape.segments)
+abbrev pub owned_books : Shape → List (List ℕ) → List Book
+owned_books shape blocks =
+    map (λ g. owned_book (segments_of shape blocks g).header g) (range_with_len 0 shape.segments)
 
 -- The state that a file of that number, these rows, these books and these live changes opens to.
-abbrev pub opened : Shape → ℕ → List TableRow → List Book → List (List Change) → State
-opened shape number rows books lives = record {
+abbrev pub opened_with : Shape → ℕ → List TableRow → List Book → List (List Change) → State
+opened_with shape number rows books lives = record {
   shape = shape;
   commits = record { base = number; rows = rows; list = [] };
   sessions = replicate session_count no_session ++ map (dead_session shape) lives;
@@ -74,9 +74,3 @@ opened shape number rows books lives = record {
   safe = number;
   stopped = false;
 }
-
--- Sound blocks stand for the state that they open to.
-abbrev pub LeftOpens : Type 0
-LeftOpens = (shape : Shape) (blocks : List (List ℕ)) (number : ℕ) (rows : List TableRow) → IsShape shape
-    → (sound : SoundAs shape blocks number rows)
-    → BlocksStand (opened shape number rows (found_books shape blocks) sound.lives) [] blocks
