@@ -47,26 +47,26 @@ passing P p (x ∷ xs) all is = elim (cases_Bool (p x)) [
 ]
 
 module _ (h : State) (xids : List Xid) (segments : ℕ → Segment) (homes : ℕ → Home) (stood : Stood h xids segments homes) (s table k : ℕ) (first : 1 ≤ table) (last : table ≤ h.shape.tables) where
-  abbrev env : Env
+  abbrev pub env : Env
   env = says h.shape segments
 
-  abbrev which : ℕ
+  abbrev pub which : ℕ
   which = home_block h.shape table k
 
-  abbrev b : Home
+  abbrev pub b : Home
   b = homes which
 
-  abbrev local : List (List Change)
+  abbrev pub local : List (List Change)
   local = map (here which) (lives_of h env)
 
-  abbrev Below : Home → Type 0
+  abbrev pub Below : Home → Type 0
   Below = Walk env h.commits.base (rows_here h.shape which h.commits.rows) (map (narrow which) (past_of h xids).list)
 
-  home : StoodHome h xids segments which b
+  pub home : StoodHome h xids segments which b
   home = presence.home h xids segments homes stood table k first last
 
   -- a session with changes in the home owns a slot, and that slot has live changes here
-  works_slot : (u : ℕ) → 1 ≤ u → list_any (is_in_home h.shape table k) (session_own h u) ≡ true → (t : ℕ) × Owns h u t × ((ch : Change) × (more : List Change) × (own local t ≡ ch ∷ more))
+  pub works_slot : (u : ℕ) → 1 ≤ u → list_any (is_in_home h.shape table k) (session_own h u) ≡ true → (t : ℕ) × Owns h u t × ((ch : Change) × (more : List Change) × (own local t ≡ ch ∷ more))
   works_slot u low any =
       let f : (c : model.Change) × (more : List model.Change) × (session_own h u ≡ c ∷ more) = presence.some_any (is_in_home h.shape table k) (session_own h u) any in
       let slot : (t : ℕ) × (t < SLOTS * h.shape.segments) × Owns h u t = stood.has_slot u f.0 f.1 low f.2 in
@@ -81,7 +81,7 @@ module _ (h : State) (xids : List Xid) (segments : ℕ → Segment) (homes : ℕ
       (slot.0, owns, some_named (own local slot.0) p.item.key (subst (λ (l : List Change). Names l p.item.key) (sym (local_of h xids segments homes stood table k first last slot.0 owns.owner owns.at)) (names_back h.shape which p.item.key (env.xid slot.0) 1 (session_own h owns.owner.session) [] named)))
 
   -- the owner of a slot with live changes here has changes in the home
-  slot_works : (t : ℕ) (ch : Change) (more : List Change) → own local t ≡ ch ∷ more → (o : Owner) × (owner_at h t ≡ Some o) × (list_any (is_in_home h.shape table k) (session_own h o.session) ≡ true)
+  pub slot_works : (t : ℕ) (ch : Change) (more : List Change) → own local t ≡ ch ∷ more → (o : Owner) × (owner_at h t ≡ Some o) × (list_any (is_in_home h.shape table k) (session_own h o.session) ≡ true)
   slot_works t ch more is = by_owner (owner_at h t) refl
     where
       by_owner : (o : Option Owner) → owner_at h t ≡ o → (o : Owner) × (owner_at h t ≡ Some o) × (list_any (is_in_home h.shape table k) (session_own h o.session) ≡ true)
