@@ -1,20 +1,12 @@
 -- Dead transactions that go: who has which slot then, and that it doesn't matter which goes first.
-use Rattle.std.proofs.Common.{◌≡◌, ◌≢◌, inl, inr, ◌<◌, ◌≤◌, ◌+◌, ◌-◌, ◌*◌, ◌/◌, ◌%◌, ◌==◌, ◌&&◌, cond, ℕ, zero, suc, Bool, true, false, List, [], ◌∷◌, length, get_or, set, find, Option, Some, None, refl, sym, ◌∙◌, ap, subst, arith}
-use Rattle.std.proofs.Math.Nat.{div-add-mod}
-use Rattle.std.proofs.lemmas.Bool.{cases_eq, cases_lt, cases_Bool, cond-true, cond-false, and_parts, and_from, eq-eqb, eqb-true, false≢true}
+use Rattle.std.proofs.Common.{◌≡◌, ◌≢◌, inl, inr, ◌-◌, ◌/◌, ◌%◌, ℕ, List, [], length, get_or, set, None, sym, ◌∙◌, ap, subst, arith}
+use Rattle.std.proofs.lemmas.Bool.{cases_eq, cases_lt}
 use Rattle.std.proofs.lemmas.List.{get_or-set_other, get_or-set_same, get_or_past, length-set, set_comm, set-set, set_past}
-use Rattle.std.specs.List.{list_any, range_with_len}
-use Rattle.rb_base.specs.declared.shape.Shape.{Shape}
-use Rattle.rb_base.specs.declared.sizes.TheConstants.{SLOTS}
-use Rattle.rb_model.specs.Book.{Book, BookSlot, Owner, book_at, free_slot, fresh_book, left, slot_owner}
-use Rattle.rb_model.specs.Change.{Change}
-use Rattle.rb_model.specs.NextState.{not_present}
-use Rattle.rb_model.specs.State.{Session, State, no_session, owner_at, session_count, session_own}
+use Rattle.rb_model.specs.Book.{Book, BookSlot, book_at, free_slot, fresh_book, left, slot_owner}
+use Rattle.rb_model.specs.State.{Session, State, no_session, owner_at, session_own}
 use Rattle.rb_segment.proofs.Fresh.{all_same}
 use Rattle.law_blocks.proofs.Seen.{one_slot}
-use Rattle.law_blocks.specs.States.{Owns}
-use Rattle.law_dead.specs.Dead.{all_gone, dead_at, dead_owner, gone, is_dead, without, works_at}
-use Rattle.law_dead.specs.Laws.{OwnsOne}
+use Rattle.law_dead.specs.Dead.{without}
 
 -- a dead session that has gone
 abbrev Gone : Session

@@ -1,13 +1,12 @@
 -- How many changes a sweep takes.
-use Rattle.std.proofs.Common.{◌≡◌, ◌≢◌, inl, inr, ◌<◌, ◌≤◌, ◌+◌, ◌-◌, ◌*◌, ◌==◌, cond, min, ℕ, zero, suc, Bool, true, false, List, [], ◌∷◌, length, get_or, set, take, Option, Some, None, refl, sym, ◌∙◌, ap, subst, arith}
-use Rattle.std.proofs.lemmas.Bool.{cases_eq, cases_lt, cases_Bool, cond-true, cond-false}
+use Rattle.std.proofs.Common.{◌≡◌, ◌≢◌, inl, inr, ◌<◌, ◌+◌, ◌-◌, ◌*◌, ◌==◌, min, ℕ, zero, suc, List, [], ◌∷◌, length, take, Option, Some, None, refl, sym, ◌∙◌, ap, subst, arith}
+use Rattle.std.proofs.lemmas.Bool.{cases_Bool, cond-true, cond-false}
 use Rattle.std.proofs.lemmas.List.{get_or-set_other, length-set}
 use Rattle.std.specs.List.{range_with_len}
 use Rattle.rb_model.specs.Change.{Change}
-use Rattle.rb_model.specs.State.{Session, State, no_session, session_count, session_own, with_changes}
+use Rattle.rb_model.specs.State.{Session, State, no_session, session_own, with_changes}
 use Rattle.law_blocks.specs.NextStates.{with_own}
-use Rattle.law_blocks.specs.States.{Owns}
-use Rattle.law_dead.proofs.Cleared.{apart, dead_owns, dead_on, one_on}
+use Rattle.law_dead.proofs.Cleared.{apart, dead_on, one_on}
 use Rattle.law_dead.proofs.Going.{own_else}
 use Rattle.law_dead.specs.Dead.{all_slots, dead_at, dead_changes, dead_changes_at, swept, swept_at, swept_count, swept_from, without}
 use Rattle.law_dead.specs.Laws.{OwnsOne}

@@ -1,5 +1,5 @@
 -- Who is dead, what a sweep takes, and which of the dead go before a write, computed on worked rows.
-use Rattle.std.proofs.Common.{◌≡◌, ◌≢◌, ◌<◌, ◌≤◌, ◌+◌, ◌++◌, ℕ, zero, suc, true, false, List, [], ◌∷◌, length, map, replicate, set, None, Some, refl, arith}
+use Rattle.std.proofs.Common.{◌≡◌, ◌≢◌, ◌<◌, ◌≤◌, ◌+◌, ◌++◌, ℕ, zero, suc, true, false, List, [], ◌∷◌, map, replicate, set, None, Some, refl, arith}
 use Rattle.std.specs.List.{range_with_len}
 use Rattle.rb_model.specs.Book.{Book, BookSlot, book_at, free_slot, fresh_book, owners, taken}
 use Rattle.rb_model.specs.Change.{Change, put}
