@@ -17,7 +17,6 @@ use Rattle.law_blocks.specs.Standing.{env_of, homes_of, segments_of}
 use Rattle.law_blocks.specs.States.{BlocksStand, Owns}
 use Rattle.law_dead.proofs.Cleared.{dead_owns}
 use Rattle.law_dead.specs.Dead.{dead_at, dead_owner, is_dead, works_at}
-use Rattle.law_write.proofs.Slots.{home, slot_works, works_slot, Below}
 use Rattle.law_dead.specs.Entries.{IsLiving, Runs, entry_of_key}
 use Rattle.law_home.proofs.Holding.{entry_of_slot}
 use Rattle.law_home.proofs.Lives.{found}
@@ -26,6 +25,7 @@ use Rattle.law_home.specs.Steps.{EntryOf}
 use Rattle.law_home.specs.Walk as walk
 use Rattle.law_home.specs.Walk.{Change, IsActive, entry_at, own}
 use Rattle.law_write.specs.Stood.{Stood, StoodHome}
+use Rattle.law_write.proofs.Slots.{Below, home, slot_works, works_slot}
 use Rattle.law_write.proofs.StoodBlocks.{stood_of}
 
 open_status : (kind number : ℕ) → kind ≡ OPEN → status_of kind number ≡ walk_kinds.Open
