@@ -1,0 +1,6 @@
+pub mod Cleared
+pub mod Entries
+pub mod Fewest
+pub mod Going
+pub mod Sweeping
+mod Worked

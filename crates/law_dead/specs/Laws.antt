@@ -1,0 +1,76 @@
+-- What holds of dead transactions that go, and of the entries that they have in a home.
+use Rattle.std.specs.Prelude.{◌≡◌, ◌<◌, ◌≤◌, ◌*◌, ℕ, min, true, false, List, length, Some}
+use Rattle.rb_base.specs.declared.ids.Xid.{Xid}
+use Rattle.rb_model.specs.State.{State, session_count}
+use Rattle.rb_model.specs.Tests.{holder}
+use Rattle.law_blocks.specs.Standing.{env_of}
+use Rattle.law_blocks.specs.States.{BlocksStand, Owns}
+use Rattle.law_dead.specs.Clearing.{IsFewest}
+use Rattle.law_dead.specs.Dead.{all_slots, dead_at, dead_changes, home_cleared, segment_cleared}
+use Rattle.law_dead.specs.Dead.{swept, swept_count, without, works_at}
+use Rattle.law_dead.specs.Entries.{IsLiving, Runs, entry_of_key}
+
+-- What the proofs of a state say of its owners: an owner is one of the sessions, and has one slot.
+pub record OwnsOne (h : State) : Type 0 where
+  pub there : (s t : ℕ) → Owns h s t → (1 ≤ s) × (s ≤ length h.sessions)
+  pub one_slot : (s t u : ℕ) → Owns h s t → Owns h s u → t ≡ u
+
+-- The dead of a slot, put back before all others, leaves the same behind all that go from that home.
+abbrev pub GoesFirst : Type 0
+GoesFirst = (h : State) (table key t d : ℕ) → OwnsOne h → t < 16 * h.shape.segments
+    → dead_at h t ≡ Some d → works_at table key h d ≡ true
+    → home_cleared table key (without t d h) ≡ home_cleared table key h
+
+-- Where none goes nothing changes.
+abbrev pub NoneIsLeft : Type 0
+NoneIsLeft = (h : State) (table key : ℕ)
+    → ((t d : ℕ) → t < 16 * h.shape.segments → dead_at h t ≡ Some d → works_at table key h d ≡ false)
+    → home_cleared table key h ≡ h
+
+-- Behind them none is left there.
+abbrev pub ClearedIsClear : Type 0
+ClearedIsClear = (h : State) (table key t d : ℕ) → OwnsOne h → t < 16 * h.shape.segments
+    → dead_at (home_cleared table key h) t ≡ Some d
+    → works_at table key (home_cleared table key h) d ≡ false
+
+-- So a key is held there by one of the sixteen, if each session that has changes has a slot.
+abbrev pub ClearedHoldsNone : Type 0
+ClearedHoldsNone = (h : State) (table key u : ℕ)
+    → ((t d : ℕ) → t < 16 * h.shape.segments → dead_at h t ≡ Some d → works_at table key h d ≡ false)
+    → ((s : ℕ) → 1 ≤ s → works_at table key h s ≡ true
+    → (t : ℕ) × (t < 16 * h.shape.segments) × Owns h s t)
+    → holder h table key ≡ Some u → u ≤ session_count
+
+-- No row and no commit changes.
+abbrev pub ClearedKeepsRows : Type 0
+ClearedKeepsRows = (h : State) (table key : ℕ) → (home_cleared table key h).commits ≡ h.commits
+
+-- A sweep takes the lesser of k and what there is.
+abbrev pub SweptCounts : Type 0
+SweptCounts = (h : State) (k : ℕ) → OwnsOne h
+    → swept_count k (all_slots h) h ≡ min k (dead_changes (all_slots h) h)
+
+-- It leaves the rows and the commits.
+abbrev pub SweptKeepsRows : Type 0
+SweptKeepsRows = (h : State) (k : ℕ) → (swept k (all_slots h) h).commits ≡ h.commits
+
+-- The segment that a session begins in is the same once its dead are gone.
+abbrev pub FewestStays : Type 0
+FewestStays = (h : State) (g : ℕ) → IsFewest h.books g → IsFewest (segment_cleared g h).books g
+
+-- A dead transaction with a live change in a home has an entry there that is no living session's.
+abbrev pub DeadHasEntry : Type 0
+DeadHasEntry = (h : State) (xids : List Xid) (blocks : List (List ℕ)) (table key t d : ℕ)
+    → BlocksStand h xids blocks → 1 ≤ table → table ≤ h.shape.tables
+    → dead_at h t ≡ Some d → works_at table key h d ≡ true
+    → (i : ℕ) × Runs h blocks table key i
+    × ((entry_of_key h blocks table key i).xid ≡ (env_of h.shape blocks).xid t)
+    × (IsLiving h blocks (entry_of_key h blocks table key i).xid → ⊥)
+
+-- And such an entry is that of a dead transaction with a live change there.
+abbrev pub EntryIsDead : Type 0
+EntryIsDead = (h : State) (xids : List Xid) (blocks : List (List ℕ)) (table key i : ℕ)
+    → BlocksStand h xids blocks → 1 ≤ table → table ≤ h.shape.tables
+    → Runs h blocks table key i → (IsLiving h blocks (entry_of_key h blocks table key i).xid → ⊥)
+    → (t : ℕ) × (d : ℕ) × (dead_at h t ≡ Some d) × (works_at table key h d ≡ true)
+    × ((entry_of_key h blocks table key i).xid ≡ (env_of h.shape blocks).xid t)

@@ -1,0 +1,4 @@
+pub mod Clearing
+pub mod Dead
+pub mod Entries
+pub mod Laws

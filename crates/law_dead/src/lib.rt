@@ -1,0 +1,7 @@
+//! Dead transactions: how the machine's state loses them, and that it doesn't matter in which order; and which entries
+//! of a home are theirs. Here are definitions and, as laws, what is proved of them.
+#![tactic(auto)]
+
+mod laws;
+
+pub use laws::{dead_laws, entry_laws};
