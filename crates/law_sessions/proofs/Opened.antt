@@ -1,5 +1,5 @@
 -- A new table remembers the state that a file opens to.
-use Rattle.std.proofs.Common.{◌≡◌, ◌-◌, ℕ, List, [], length, replicate, sym, ap, subst, arith}
+use Rattle.std.proofs.Common.{◌≡◌, ◌≤◌, ◌-◌, ℕ, List, [], length, replicate, sym, ap, subst, arith}
 use Rattle.std.proofs.lemmas.List.{get_or-replicate, length-replicate}
 use Rattle.rb_base.specs.declared.shape.Shape.{Shape}
 use Rattle.law_crash.proofs.Owners.{id_none}
@@ -15,7 +15,7 @@ use Rattle.law_home.specs.Walk.{Env}
 pub first_remembered : (shape : Shape) (number : ℕ) (rows : List TableRow) (books : List Book) (env : Env) → ((s : ℕ) → HasNoSlot (opened shape number rows books) s) → Remembers (opened shape number rows books) [] env (replicate SESSIONS fresh)
 first_remembered shape number rows books env none = record {
   counted = length-replicate SESSIONS fresh;
-  as_many = length-replicate session_count no_session;
+  as_many = let n = length-replicate session_count no_session in omega (arith, n);
   each = λ s low high.
       let at : kept_at (replicate SESSIONS fresh) s ≡ fresh = get_or-replicate SESSIONS (s - 1) fresh fresh (omega (arith, low, high)) in
       let session : session_of (opened shape number rows books) s ≡ no_session = get_or-replicate session_count (s - 1) no_session no_session (omega (arith, low, high)) in

@@ -92,7 +92,7 @@ module _ (h h2 : State) (xids xids2 : List Xid) (env env2 : Env) (s : ℕ) (move
   pub table_last : (table : List KeptSession) (k : KeptSession) → 1 ≤ s → s ≤ SESSIONS → Remembers h xids env table → IsSession h2 xids2 env2 s k → Remembers h2 xids2 env2 (with_kept table s k)
   table_last table k low high is now = record {
     counted = length-set table (s - 1) k ∙ is.counted;
-    as_many = moves.counted ∙ is.as_many;
+    as_many = let n = is.as_many in omega (arith, n, moves.counted);
     each = λ u u_low u_high. elim (cases_eq u s) [
       | inl this ↦
           let at : kept_at (with_kept table s k) s ≡ k = get_or-set_same table (s - 1) k fresh (let n = is.counted in omega (arith, low, high, n)) in

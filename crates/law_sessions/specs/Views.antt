@@ -72,10 +72,11 @@ pub record IsSession (h : State) (xids : List Xid) (env : Env) (s : ℕ) (k : Ke
   pub savepoints : k.savepoints ≡ (session_of h s).savepoints
   pub cursors : AreCursors h xids env s k.cursors (session_of h s).cursors
 
--- the table knows each session of the state, whose commits have these ids
+-- The table knows each session of the state that a call can name. The commits have these ids. Behind those sessions
+-- there may be others, of transactions that ended with an earlier run.
 pub record Remembers (h : State) (xids : List Xid) (env : Env) (kept : List KeptSession) : Type 0 where
   pub counted : length kept ≡ SESSIONS
-  pub as_many : length h.sessions ≡ SESSIONS
+  pub as_many : SESSIONS ≤ length h.sessions
   pub each : (s : ℕ) → 1 ≤ s → s ≤ SESSIONS → IsSession h xids env s (kept_at kept s)
 
 -- the table slot of a reader's transaction, counted over all segments

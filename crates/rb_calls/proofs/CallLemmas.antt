@@ -8,7 +8,7 @@ use Rattle.rb_calls.specs.Made.{Made}
 use Rattle.rb_calls.specs.Resumes.{TriedAgain}
 use Rattle.rb_calls.specs.Since.{IsSince, StandsAs, engine_outside}
 use Rattle.rb_engine.proofs.QueueLemmas.{survives_from, survives_queue}
-use Rattle.rb_engine.specs.Does.{Does, EngineView, Resumes, SameStore, Stands}
+use Rattle.rb_engine.specs.Does.{Does, EngineView, Resumes, Stands}
 use Rattle.rb_engine.specs.Lateness.{ResumeNeedsLost}
 use Rattle.rb_engine.specs.Makes.{Makes, ResumeMakes}
 use Rattle.rb_engine.specs.Worn.{CallNeedsLost, IsWorn}
@@ -35,6 +35,7 @@ use Rattle.rb_model.specs.Lines.{caller}
 use Rattle.rb_script.specs.Commands.{asked_by}
 use Rattle.rb_script.specs.declared.command.Request.{Request}
 use Rattle.rb_model.proofs.Stops.{after_stops, fine_stays, other_refusal}
+use Rattle.rb_rollback.specs.Backs.{SameStore}
 
 -- what a session asks for is told to it
 pub caller_asked : (s : ℕ) (request : Request) → caller (asked_by s request) ≡ Some s

@@ -2,12 +2,13 @@
 use Rattle.std.specs.Prelude.{◌≡◌, ℕ, false}
 use Rattle.rb_base.specs.Counts.{IsCountedAs}
 use Rattle.rb_base.specs.declared.store.Store.{Ghosts}
-use Rattle.rb_engine.specs.Does.{Does, EngineView, SameStore, Stands}
+use Rattle.rb_engine.specs.Does.{Does, EngineView, Stands}
 use Rattle.rb_engine.specs.Makes.{Makes}
 use Rattle.rb_engine.specs.Worn.{CallNeedsLost}
 use Rattle.rb_model.specs.Calls.{Answer, Call, Refused, is_fault}
 use Rattle.rb_model.specs.State.{State}
 use Rattle.rb_model.specs.declared.refusal.Refusal.TheVariants.{TooOld}
+use Rattle.rb_rollback.specs.Backs.{SameStore}
 
 -- A call was made, with that answer: what it did, for each state that the engine stood for, and how its disk is since.
 pub record Made {S : Type 0} (s : Ghosts S) (call : Call) (answer : Answer) (old new : EngineView S) : Type 0 where

@@ -3,7 +3,7 @@ use Rattle.std.proofs.Common.{◌≡◌, ◌∙◌, refl, subst, arith, ℕ, fal
 use Rattle.rb_base.specs.Logs.{Laws}
 use Rattle.rb_base.specs.Moments.{begun}
 use Rattle.rb_base.specs.declared.store.Store.{Ghosts}
-use Rattle.rb_engine.specs.Does.{EngineView, SameStore, Stands}
+use Rattle.rb_engine.specs.Does.{EngineView, Stands}
 use Rattle.rb_engine.specs.Makes.{Makes, StandFor}
 use Rattle.rb_engine.specs.Worn.{IsWorn}
 use Rattle.law_crash.proofs.Crashes.{extends_same, grow_same, survives_on}
@@ -14,6 +14,7 @@ use Rattle.law_crash.specs.Images.{HasSome}
 use Rattle.rb_model.specs.Calls.{Answer, Call}
 use Rattle.rb_model.specs.Out.{Logged, Outside, outside_by}
 use Rattle.rb_model.specs.State.{State}
+use Rattle.rb_rollback.specs.Backs.{SameStore}
 
 -- What a call with that answer makes of the machine's blocks. They stand for its state then.
 abbrev pub MakesOf : Logged → Call → Answer → Logged → Type 0

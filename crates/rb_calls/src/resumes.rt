@@ -5,12 +5,12 @@ ghost use Rattle.std.specs.Result.{is_err};
 ghost use Rattle.rb_base.specs.Counts.{IsCounted};
 ghost use Rattle.rb_calls.specs.Resumes.{HasResumed, HeardFew};
 ghost use Rattle.rb_calls.specs.Since.{IsSince, StandsAs, engine_outside};
-ghost use Rattle.rb_engine.specs.Does.{SameStore};
 ghost use Rattle.rb_lines.specs.Ran.{Did};
 ghost use Rattle.rb_model.specs.Answers.{write_answer};
 ghost use Rattle.rb_model.specs.Calls.{Answer, is_fault};
 ghost use Rattle.rb_model.specs.Out.{Logged};
 ghost use Rattle.rb_model.specs.Queue.{first_ready};
+ghost use Rattle.rb_rollback.specs.Backs.{SameStore};
 
 use rb_base::{Failed, Store};
 use rb_engine::Engine;

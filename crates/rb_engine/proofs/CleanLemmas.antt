@@ -16,9 +16,8 @@ use Rattle.rb_cr.specs.Faults.{Because}
 use Rattle.rb_cr.specs.declared.faults.CrFault.{CrFault}
 use Rattle.rb_cr.specs.declared.faults.CrFault.TheVariants as faults
 use Rattle.rb_engine.specs.Cleaning.{Cleans, HasCleaned, IsBefore, IsClean, IsHere, IsOnTheWay, OnlyCleaned, ReadIn, Serves}
-use Rattle.rb_engine.specs.Finishing.{Fails}
 use Rattle.rb_engine.specs.Scanning.{HasKey, HasNext, HasNone, IsBehind, IsReader}
-use Rattle.rb_engine.proofs.DoesLemmas.{fault_survives, holds_logged, survives_same}
+use Rattle.rb_engine.proofs.DoesLemmas.{fault_survives}
 use Rattle.rb_heap.specs.Cleaning.{cleaned_home}
 use Rattle.rb_heap.specs.Homes.{home_of}
 use Rattle.law_crash.specs.Crash.{Survives}
@@ -48,6 +47,8 @@ use Rattle.law_home.specs.Homes.{here, narrow}
 use Rattle.law_home.specs.Kinds.{Status, Free, Open, Exact, Bound}
 use Rattle.law_home.specs.Steps.{cleaned, cleaned_entry, cleaned_status, told_by}
 use Rattle.law_home.specs.Walk.{Env, Home, entry_at, free_entry}
+use Rattle.rb_rollback.specs.Backs.{Fails}
+use Rattle.rb_rollback.proofs.Backs.{holds_logged, survives_same}
 
 -- Where the segments are the same, so is all that they say.
 

@@ -10,15 +10,14 @@ use Rattle.rb_base.specs.declared.ids.Xid.{Xid}
 use Rattle.rb_base.specs.declared.store.Store.{Ghosts}
 use Rattle.rb_engine.specs.Checks.{Refuses}
 use Rattle.rb_engine.proofs.FewLemmas.{grows_few}
-use Rattle.rb_engine.specs.Does.{Does, EngineView, Goes, Kept, Keeps as Retained, Knows, KnowsQueue, SameStore, Stands}
+use Rattle.rb_engine.specs.Does.{Does, EngineView, Goes, Kept, Keeps as Retained, Knows, KnowsQueue, Stands}
 use Rattle.rb_engine.proofs.QueueLemmas.{knows_same}
-use Rattle.law_crash.specs.Between.{MarksGrow}
 use Rattle.law_crash.specs.Crash.{Survives}
 use Rattle.law_crash.specs.Holds.{Holds}
 use Rattle.law_crash.specs.Images.{HasSome}
 use Rattle.law_crash.proofs.CommitHeld.{holds_flushed}
 use Rattle.law_crash.proofs.Crashes.{extends_same, grow_same, some_later}
-use Rattle.law_crash.proofs.Steps.{keeps_on, none_each, read_has, survives_going}
+use Rattle.law_crash.proofs.Steps.{keeps_on, none_each, read_has}
 use Rattle.rb_model.specs.Book.{book_at}
 use Rattle.rb_model.specs.Calls.{Answer, Call, Fetch, Get, Marked, Refused, MayAnswer, early_tests, failed_in, is_disk_fault, is_fault, none_applies}
 use Rattle.rb_model.specs.NextState.{After, Grows, with_cursors}
@@ -37,6 +36,8 @@ use Rattle.rb_steps.proofs.Finishing.{cursors_free}
 use Rattle.law_write.proofs.Told as told
 use Rattle.law_sessions.proofs.Queues.{queue_remembered}
 use Rattle.law_sessions.specs.Views.{Remembers}
+use Rattle.rb_rollback.specs.Backs.{SameStore}
+use Rattle.rb_rollback.proofs.Backs.{holds_logged, survives_same}
 
 -- no call changes how many sessions there are
 pub after_sessions : (h h2 : State) (c : Call) (r : Answer) → After h c r h2 → length h2.sessions ≡ length h.sessions
@@ -94,16 +95,6 @@ module _ {S : Type 0} (s : Ghosts S) where
   }
 
   module _ (told : s.tells) (laws : Laws s) where
-    -- Calls that gave no group leave a state with the same commits, books and acknowledgements.
-    pub survives_same : {Between : S → S → Type 0} {fault : Option Call} → (h h2 : State) (xids : List Xid) (old new : S) (going : Bool) → s.shape_of old ≡ h.shape → h2.shape ≡ h.shape → h2.commits ≡ h.commits → h2.books ≡ h.books → h2.safe ≡ h.safe → Holds s h xids old
-        → LogsBy s Between old new [] going → s.keeps → Survives s (s.slots old) fault h h2 old new
-    survives_same h h2 xids old new going shape shapes commits books safe holds logs keeps =
-        let P : List (List ℕ) → ℕ → Type 0 = HasSome h h.books in
-        let grow = subst (λ l. MarksGrow h.shape h.books l) (sym books) (grow_same h.shape h.books) in
-        let stays = extends_same h h2 shapes commits grow (omega (arith, safe)) in
-        survives_going s laws keeps h h2 old new [] shape stays (omega (arith, safe)) (holds.images keeps) going logs
-        (none_each s laws keeps (HasSome h2 h2.books) (s.blocks old) (s.lsn old) (some_later h h2 h.books h2.books (s.blocks old) (s.lsn old) stays (omega (arith, safe)) grow (read_has s laws keeps P old (holds.images keeps))))
-
     -- The store has a state that differs in what one session has beside its changes.
     pub holds_session : (h : State) (who : ℕ) (xids : List Xid) (store : S) (session : Session) → (1 ≤ who) × (who ≤ length h.sessions) → session.own ≡ session_own h who → Holds s h xids store → Holds s (with_session h who session) xids store
     holds_session h who xids store session there own holds =
@@ -116,18 +107,6 @@ module _ {S : Type 0} (s : Ghosts S) where
           images = λ keeps. let k = holds.images keeps in record { base = k.base; first = k.first; stable = k.stable; each = λ count few. so _ _ (k.each count few) };
         }
 
-    -- Calls that gave no group and went well leave what the store has.
-    pub holds_logged : {Between : S → S → Type 0} (h : State) (xids : List Xid) (old new : S) → Holds s h xids old → LogsBy s Between old new [] true → Holds s h xids new
-    holds_logged h xids old new holds logs =
-        let P : List (List ℕ) → ℕ → Type 0 = HasSome h h.books in
-        let same : s.blocks new ≡ s.blocks old = logs.blocks told refl in
-        let number : s.lsn new ≡ s.lsn old = omega (arith, logs.number refl) in record {
-          blocks = subst (BlocksStand h xids) (sym same) holds.blocks;
-          logged = number ∙ holds.logged ∙ ap (logged_of h.shape) (sym same);
-          images = λ keeps. keeps_on s laws keeps P P (λ b n has. has) old new [] (holds.images keeps) logs
-              (none_each s laws keeps P (s.blocks old) (s.lsn old) (read_has s laws keeps P old (holds.images keeps)));
-        }
-
     -- A table remembers the state over calls that gave no group and went well.
     pub remembers_logged : {Between : S → S → Type 0} (h : State) (xids : List Xid) (sessions : List KeptSession) (old new : S) → LogsBy s Between old new [] true → Remembers h xids (env_of h.shape (s.blocks old)) sessions → Remembers h xids (env_of h.shape (s.blocks new)) sessions
     remembers_logged h xids sessions old new logs knows = subst (λ b. Remembers h xids (env_of h.shape b) sessions) (sym (logs.blocks told refl)) knows
@@ -135,7 +114,7 @@ module _ {S : Type 0} (s : Ghosts S) where
     pub goes_logged : {Between : S → S → Type 0} (h : State) (old new : EngineView S) → Goes s h old → LogsBy s Between old.store new.store [] true → new.memory.sessions ≡ old.memory.sessions → new.memory.copies ≡ old.memory.copies → Goes s h new
     goes_logged h old new goes logs same copies = record {
       xids = goes.xids;
-      holds = holds_logged h goes.xids old.store new.store goes.holds logs;
+      holds = holds_logged s told laws h goes.xids old.store new.store goes.holds logs;
       remembers = subst (Remembers h goes.xids (env_of h.shape (s.blocks new.store))) (sym same) (remembers_logged h goes.xids old.memory.sessions old.store new.store logs goes.remembers);
       copies = copies_same h h goes.xids (s.blocks old.store) (s.blocks new.store) old.memory.copies new.memory.copies refl refl (logs.blocks told refl) copies goes.copies;
     }
@@ -147,7 +126,7 @@ module _ {S : Type 0} (s : Ghosts S) where
     does_loaded h call answer old new st reply after grows retains memory logs same =
         does_by h h call answer old new 0 st reply after (λ _. retains) (subst (Knows h) (sym memory) st.knows) same
         (λ going. (grows, (logs going).number refl, goes_logged h old new (st.goes going) (logs going) (ap (λ (k : Kept). k.sessions) memory) (ap (λ (k : Kept). k.copies) memory)))
-        (λ before going keeps. survives_same h h (st.goes going).xids old.store new.store true st.shape refl refl refl refl (st.goes going).holds (logs going) keeps)
+        (λ before going keeps. survives_same s told laws h h (st.goes going).xids old.store new.store true st.shape refl refl refl refl (st.goes going).holds (logs going) keeps)
 
     -- A call that makes last all that waits: every commit is acknowledged then.
     pub does_flushed : (h : State) (call : Call) (answer : Answer) (old new : EngineView S) → Stands s h old → h.stopped ≡ false
@@ -191,7 +170,7 @@ module _ {S : Type 0} (s : Ghosts S) where
     does_fault h call old new st going early stops same survives = does_fault_known h call old new st early (knows_stop h old.memory new.memory st.knows stops) same survives
 
     pub fault_survives : {Between : S → S → Type 0} {fault : Option Call} → (h : State) (xids : List Xid) (old new : S) → s.shape_of old ≡ h.shape → Holds s h xids old → LogsBy s Between old new [] false → s.keeps → Survives s (s.slots old) fault h (record h { stopped = true }) old new
-    fault_survives h xids old new shape holds logs keeps = survives_same h (record h { stopped = true }) xids old new false shape refl refl refl refl holds logs keeps
+    fault_survives h xids old new shape holds logs keeps = survives_same s told laws h (record h { stopped = true }) xids old new false shape refl refl refl refl holds logs keeps
 
     -- A call that changed what one session has beside its changes, and perhaps loaded blocks.
     pub does_session : (h : State) (call : Call) (answer : Answer) (who : ℕ) (session : Session) (old new : EngineView S) → Stands s h old → h.stopped ≡ false
@@ -216,7 +195,7 @@ module _ {S : Type 0} (s : Ghosts S) where
             copies = copies_same h h2 goes.xids (s.blocks old.store) (s.blocks new.store) old.memory.copies new.memory.copies refl refl (logs.blocks told refl) copies goes.copies;
           },
         ))
-        (λ before _ keeps. survives_same h h2 goes.xids old.store new.store true st.shape refl refl refl refl goes.holds logs keeps)
+        (λ before _ keeps. survives_same s told laws h h2 goes.xids old.store new.store true st.shape refl refl refl refl goes.holds logs keeps)
 
     -- One that changed its cursors alone.
     pub does_cursors : (h : State) (call : Call) (answer : Answer) (who : ℕ) (cursors : List Cursor) (old new : EngineView S) → Stands s h old → h.stopped ≡ false

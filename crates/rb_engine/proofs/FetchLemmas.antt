@@ -30,9 +30,9 @@ use Rattle.law_sessions.specs.Laws.{rows_seen}
 use Rattle.law_sessions.specs.Scan.{IsAskedKey}
 use Rattle.law_sessions.specs.Views.{history, home_in, IsCursor, Remembers}
 use Rattle.law_sessions.proofs.Fetching as views
-use Rattle.rb_engine.specs.Does.{Does, EngineView, Goes, Kept, Knows, SameStore, Stands}
+use Rattle.rb_engine.specs.Does.{Does, EngineView, Goes, Kept, Knows, Stands}
 use Rattle.rb_engine.proofs.CleanLemmas.{env_same}
-use Rattle.rb_engine.proofs.DoesLemmas.{after_sessions, does_by, holds_session, knows_on, survives_same}
+use Rattle.rb_engine.proofs.DoesLemmas.{after_sessions, does_by, holds_session, knows_on}
 use Rattle.rb_engine.specs.Cleaning.{CleansRead, HasCleaned, MustIn, ReadIn, Serves}
 use Rattle.rb_engine.specs.Makes.{ReadBy}
 use Rattle.law_crash.proofs.Crashes.{survives_on}
@@ -51,6 +51,8 @@ use Rattle.rb_sessions.specs.Kept.{KeptSession, kept_at, named, with_kept, with_
 use Rattle.rb_sessions.specs.Kept as table
 use Rattle.law_sessions.proofs.Cursors.{named_is}
 use Rattle.law_sessions.proofs.Taken.{taken}
+use Rattle.rb_rollback.specs.Backs.{SameStore}
+use Rattle.rb_rollback.proofs.Backs.{survives_same}
 
 behind_of : (blocks first g : ℕ) (last : Option ℕ) → Begins blocks first g last → (k : ℕ) → k % blocks ≡ g → is_after blocks last k ≡ true → IsBehindKey (if g == first then last else None) k
 behind_of blocks first g None begins k home after = cond_both (g == first) None None (λ (o : Option ℕ). IsBehindKey o k) (λ yes. tt) (λ no. tt)

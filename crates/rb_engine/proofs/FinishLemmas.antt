@@ -5,18 +5,17 @@ use Rattle.rb_engine.proofs.CopyLemmas.{copies_committed, copies_same}
 use Rattle.std.proofs.lemmas.Bool.{le-leb, and_from}
 use Rattle.std.proofs.lemmas.List.{length-set}
 use Rattle.std.specs.Result.{is_err}
-use Rattle.rb_write.specs.Asks.{header_in}
 use Rattle.rb_base.specs.Blocks.{after_groups}
 use Rattle.rb_base.specs.Groups.{Patch}
 use Rattle.rb_base.specs.Logs.{Flushes, Laws, LogsBy, more_flushes, no_logs}
 use Rattle.rb_base.specs.declared.ids.Xid.{Xid}
 use Rattle.rb_base.specs.declared.store.Store.{Ghosts}
-use Rattle.rb_engine.specs.Does.{Does, EngineView, Goes, Keeps, Kept, Knows, SameStore, Stands}
-use Rattle.rb_engine.specs.Finishing.{Commits, Fails, commit_call, lasting, number_told}
+use Rattle.rb_engine.specs.Does.{Does, EngineView, Goes, Keeps, Kept, Knows, Stands}
+use Rattle.rb_engine.specs.Finishing.{Commits, commit_call, lasting, number_told}
 use Rattle.rb_engine.specs.Makes.{MadeReading}
 use Rattle.rb_engine.specs.declared.finish.Lasting.{Lasting}
 use Rattle.rb_engine.specs.declared.finish.Lasting.TheVariants.{AtOnce, Later}
-use Rattle.rb_engine.proofs.DoesLemmas.{does_by, does_fault, holds_session, knows_on, survives_same}
+use Rattle.rb_engine.proofs.DoesLemmas.{does_by, does_fault, holds_session, knows_on}
 use Rattle.rb_engine.proofs.QueueLemmas.{all_asked, holds_queue, knows_freed, survives_queue}
 use Rattle.law_crash.specs.Crash.{Survives}
 use Rattle.law_crash.specs.Holds.{Holds}
@@ -33,13 +32,11 @@ use Rattle.rb_model.specs.Queue.{freed_by, is_queued}
 use Rattle.rb_model.specs.Rows.{last_scn}
 use Rattle.rb_model.specs.State.{Cursor, State, all_safe, is_session, no_session, session_own}
 use Rattle.rb_model.specs.declared.refusal.Refusal.TheVariants.{DiskFault}
-use Rattle.rb_segment.specs.Calls.{Runs}
 use Rattle.rb_sessions.specs.Kept.{KeptSession, kept_at, with_kept}
 use Rattle.rb_sessions.specs.Kept as table
-use Rattle.law_blocks.specs.Standing.{env_of, logged_of, segments_of}
+use Rattle.law_blocks.specs.Standing.{env_of, logged_of}
 use Rattle.law_blocks.specs.States.{BlocksStand, lives_of, past_of}
 use Rattle.law_blocks.proofs.BlocksAs.{commit_logged}
-use Rattle.law_blocks.proofs.SegmentRead.{header_is}
 use Rattle.rb_steps.proofs.Finishing.{scn_is}
 use Rattle.law_write.specs.Verdict.{IsOwnId}
 use Rattle.law_sessions.specs.Views.{Remembers}
@@ -47,10 +44,8 @@ use Rattle.law_blocks.specs.Groups.{IsCommitted}
 use Rattle.law_sessions.proofs.Ended.{committed_remembered}
 use Rattle.law_sessions.proofs.Queues.{queue_remembered}
 use Rattle.rb_base.specs.declared.sizes.TheConstants.{SLOTS}
-
--- the header of a segment, read as the steps read it
-pub runs_in : (h : State) (blocks : List (List ℕ)) (x : Xid) → Runs (segments_of h.shape blocks x.seg).header x → Runs (header_in h.shape blocks x.seg) x
-runs_in h blocks x runs = subst (λ k. Runs k x) (header_is h.shape blocks x.seg) runs
+use Rattle.rb_rollback.specs.Backs.{Fails, SameStore}
+use Rattle.rb_rollback.proofs.Backs.{survives_same}
 
 pub some_own : (l : List Change) → 0 < length l → is_empty l ≡ false
 some_own [] some = absurd (omega (arith, some))

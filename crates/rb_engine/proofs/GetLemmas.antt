@@ -4,7 +4,7 @@ use Rattle.rb_base.specs.Blocks.{home_block}
 use Rattle.rb_base.specs.declared.store.Store.{Ghosts}
 use Rattle.rb_cr.specs.declared.faults.CrFault.TheVariants as faults
 use Rattle.rb_engine.specs.Cleaning.{HasCleaned, IsHere, IsOnTheWay, Serves}
-use Rattle.rb_engine.specs.Does.{Does, EngineView, Goes, Kept, Knows, SameStore, Stands, with_copies}
+use Rattle.rb_engine.specs.Does.{Does, EngineView, Goes, Kept, Knows, Stands, with_copies}
 use Rattle.rb_engine.specs.Getting.{GetNeedsLost, KeyRead}
 use Rattle.rb_engine.specs.Scanning.{HasNext, HasNone, IsBehind, IsReader, opened_now}
 use Rattle.rb_engine.proofs.CleanLemmas.{env_same}
@@ -32,6 +32,7 @@ use Rattle.rb_model.specs.declared.row.Row.{Row}
 use Rattle.rb_sessions.specs.Kept.{kept_at}
 use Rattle.rb_sessions.specs.declared.cursor.Cursor.{Cursor}
 use Rattle.rb_sessions.specs.declared.sessions.TheConstants.{SESSIONS}
+use Rattle.rb_rollback.specs.Backs.{SameStore}
 
 -- an engine that stands for a state, and a cursor over one key as a session of it would open it now
 module _ {S : Type 0} (s : Ghosts S) (h : State) (old : EngineView S) (st : Stands s h old) (going : h.stopped ≡ false) (who : ℕ) (there : (1 ≤ who) × (who ≤ SESSIONS)) (table key : ℕ) (in_tables : is_table h table ≡ true)

@@ -14,7 +14,7 @@ use Rattle.rb_cr.specs.declared.faults.CrFault.{CrFault}
 use Rattle.rb_cr.specs.declared.faults.CrFault.TheVariants as faults
 use Rattle.rb_cr.specs.declared.scratch.Snapshot.{Snapshot}
 use Rattle.rb_engine.specs.Checks.{NotOld}
-use Rattle.rb_engine.specs.Does.{Does, EngineView, Goes, Kept, SameStore, Stands}
+use Rattle.rb_engine.specs.Does.{Does, EngineView, Goes, Kept, Stands}
 use Rattle.rb_engine.specs.Lateness.{IsKeyWorn, IsRefusedLate, IsTimely, IsWriteWorn, LateAs, WriteNeedsLost}
 use Rattle.rb_engine.proofs.DoesLemmas.{does_fault, does_loaded, fault_survives}
 use Rattle.rb_engine.proofs.WriteLemmas.{answered}
@@ -41,6 +41,7 @@ use Rattle.law_sessions.specs.Views.{Remembers, history}
 use Rattle.law_sessions.proofs.Late as views
 use Rattle.law_sessions.proofs.Readable.{write_read}
 use Rattle.law_sessions.proofs.Lost.{lost_is}
+use Rattle.rb_rollback.specs.Backs.{SameStore}
 
 -- A call that reads at a snapshot may be too old where a segment lost something above it.
 pub old_reply : (h : State) (xids : List Xid) (blocks : List (List ℕ)) → BlocksStand h xids blocks → (logged : ℕ) (call : Call) (why : ℕ → Type 0) (n scn lost : ℕ) → none_applies (early_tests h call) ≡ true → ReadsAt h call n

@@ -6,7 +6,7 @@ use Rattle.rb_base.specs.Logs.{Laws, Logs}
 use Rattle.rb_base.specs.declared.ids.Xid.{Xid}
 use Rattle.rb_base.specs.declared.store.Store.{Ghosts}
 use Rattle.rb_engine.specs.Does.{EngineView, Goes, Stands}
-use Rattle.rb_engine.specs.Finishing.{Commits, PutsAllBack, PutsBack, commit_call, number_told}
+use Rattle.rb_engine.specs.Finishing.{Commits, commit_call, number_told}
 use Rattle.rb_engine.specs.declared.finish.Lasting.{Lasting}
 use Rattle.rb_engine.specs.declared.finish.Lasting.TheVariants.{AtOnce, Later}
 use Rattle.rb_engine.specs.Makes.{EndOver, MadeBy, MadeReading, MadeRefused, Makes}
@@ -24,6 +24,7 @@ use Rattle.rb_model.specs.declared.wrote.Wrote.TheVariants as wrote
 use Rattle.rb_sessions.specs.Kept.{kept_at}
 use Rattle.law_blocks.specs.Standing.{env_of}
 use Rattle.law_write.specs.Verdict.{IsOwnId}
+use Rattle.rb_rollback.specs.Backs.{PutsAllBack, PutsBack}
 
 -- A call that changed no block.
 module _ (h : State) (call : Call) (lsn : ℕ) (before now : List (List ℕ)) (same : now ≡ before) where

@@ -4,7 +4,7 @@ use Rattle.std.specs.Option.{option_map}
 use Rattle.rb_base.specs.Logs.{Laws, no_logs}
 use Rattle.rb_base.specs.declared.store.Store.{Ghosts}
 use Rattle.rb_engine.specs.Does.{Does, EngineView, IsQueue, Kept, KnowsQueue, Stands}
-use Rattle.rb_engine.proofs.DoesLemmas.{does_by, does_refused_late, survives_same}
+use Rattle.rb_engine.proofs.DoesLemmas.{does_by, does_refused_late}
 use Rattle.rb_engine.proofs.QueueLemmas.{asked_is, goes_queue, survives_queue}
 use Rattle.rb_model.specs.Calls as machine
 use Rattle.rb_model.specs.Calls.{Answer, Call, MayAnswer, early_tests, name_tests, none_applies, number_tests}
@@ -14,6 +14,7 @@ use Rattle.rb_model.specs.State.{State, asked_of}
 use Rattle.rb_model.specs.declared.refusal.Refusal.TheVariants.{NotWaiting}
 use Rattle.rb_sessions.specs.Kept.{KeptSession, asked_of_pending, kept_at}
 use Rattle.rb_sessions.specs.declared.pending.Pending.{Pending}
+use Rattle.rb_rollback.proofs.Backs.{survives_same}
 
 module _ {S : Type 0} (s : Ghosts S) (h : State) (who : ℕ) (kept now : Kept) (store : S) (st : Stands s h (record { memory = kept; store = store })) (left : now ≡ record kept { waits = left_by who kept.waits }) where
   sessions : now.sessions ≡ kept.sessions

@@ -15,10 +15,10 @@ use Rattle.rb_base.specs.Logs.{Laws, Logs, group_of}
 use Rattle.rb_base.specs.declared.ids.Xid.{Xid}
 use Rattle.rb_base.specs.declared.shape.Shape.{Shape}
 use Rattle.rb_base.specs.declared.store.Store.{Ghosts}
-use Rattle.rb_engine.specs.Does.{Does, EngineView, Goes, IsInStep, Kept, Keeps, Knows, SameStore, Stands}
+use Rattle.rb_engine.specs.Does.{Does, EngineView, Goes, IsInStep, Kept, Keeps, Knows, Stands}
 use Rattle.rb_engine.specs.Retains.{Retains}
 use Rattle.rb_engine.specs.Scanning.{OtherHolds}
-use Rattle.rb_engine.proofs.DoesLemmas.{does_by, does_fault, does_loaded, goes_logged, holds_logged, knows_on, remembers_logged, survives_same, refused_none}
+use Rattle.rb_engine.proofs.DoesLemmas.{does_by, does_fault, does_loaded, goes_logged, knows_on, remembers_logged, refused_none}
 use Rattle.rb_engine.proofs.QueueLemmas.{all_asked, holds_queue, knows_same, one_asked, queue_waiting, survives_queue}
 use Rattle.rb_engine.proofs.StepLemmas.{few_less, fit_at, fit_held, in_step_moved, in_step_same}
 use Rattle.rb_engine.proofs.RetainsLemmas.{retains}
@@ -51,6 +51,8 @@ use Rattle.law_write.specs.Verdict.{IsOwnId}
 use Rattle.law_sessions.specs.Views.{Remembers}
 use Rattle.law_sessions.proofs.Queues.{held_remembered, queue_remembered}
 use Rattle.law_sessions.proofs.Written.{written_remembered}
+use Rattle.rb_rollback.specs.Backs.{SameStore}
+use Rattle.rb_rollback.proofs.Backs.{holds_logged, survives_same}
 
 -- a fault of an attempt is one of the disk exactly where a call failed
 pub failed_is : (fault : AttemptFault) → is_disk_fault (refusal_of fault) ≡ has_failed {T = Xid} (Err fault)

@@ -7,7 +7,7 @@ use Rattle.rb_write.specs.declared.ask.AttemptFault.{AttemptFault}
 use Rattle.rb_base.specs.Logs.{Laws, Logs}
 use Rattle.rb_base.specs.declared.ids.Xid.{Xid}
 use Rattle.rb_base.specs.declared.store.Store.{Ghosts}
-use Rattle.rb_engine.specs.Does.{Does, EngineView, Goes, IsInStep, Kept, SameStore, Stands, StopsIf}
+use Rattle.rb_engine.specs.Does.{Does, EngineView, Goes, IsInStep, Kept, Stands, StopsIf}
 use Rattle.rb_engine.specs.Lateness.{IsTimely, WriteNeedsLost}
 use Rattle.rb_engine.specs.Makes.{Makes}
 use Rattle.rb_engine.specs.Scanning.{OtherHolds}
@@ -33,6 +33,7 @@ use Rattle.law_blocks.specs.States.{BlocksStand}
 use Rattle.rb_steps.proofs.Somewhere.{somewhere}
 use Rattle.rb_steps.specs.Steps.{IsAbout, MayWrite, NotOthers, refusal_of}
 use Rattle.law_sessions.specs.Views.{Remembers}
+use Rattle.rb_rollback.specs.Backs.{SameStore}
 
 -- The engine stays in order where a call that only loads fails, by which it is stopped, or doesn't.
 pub loaded_in_step : {S : Type 0} (s : Ghosts S) (kept now : Kept) (old new : S) → IsInStep s kept old → kept.stopped ≡ false → s.shape_of new ≡ s.shape_of old → (fault : Bool) → StopsIf fault kept now → (fault ≡ false → Logs s old new [] true) → IsInStep s now new

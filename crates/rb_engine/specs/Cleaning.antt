@@ -8,7 +8,6 @@ use Rattle.rb_base.specs.declared.sizes.TheConstants.{WORN}
 use Rattle.rb_base.specs.declared.store.Store.{Ghosts}
 use Rattle.rb_cr.specs.declared.faults.CrFault.{CrFault}
 use Rattle.rb_engine.specs.Does.{EngineView}
-use Rattle.rb_engine.specs.Finishing.{Fails}
 use Rattle.rb_engine.specs.Scanning.{ComesTo, HasKey, HasNone, IsReader}
 use Rattle.rb_heap.specs.Cleaning.{cleaned_home}
 use Rattle.rb_heap.specs.Homes.{home_of}
@@ -23,6 +22,7 @@ use Rattle.rb_sessions.specs.Kept.{kept_at, named}
 use Rattle.rb_sessions.specs.declared.cursor.Cursor.{Cursor}
 use Rattle.law_blocks.specs.Standing.{env_of, segments_of}
 use Rattle.law_sessions.specs.Views.{home_in}
+use Rattle.rb_rollback.specs.Backs.{Fails}
 
 -- Block b is cleaned of the transactions that had ended before: each Open entry of one tells its number, or its bound,
 -- as the headers of before know it, and all else of the home stays but the locks that name such an entry.

@@ -158,11 +158,6 @@ abbrev pub resume_fault : Option (ℕ × Result Wrote Refusal) → Bool
 resume_fault None = false
 resume_fault (Some (w, outcome)) = err_is is_disk_fault outcome
 
--- no call changes the shape of a store, or the slots of its log
-pub record SameStore {S : Type 0} (s : Ghosts S) (old new : S) : Type 0 where
-  pub shape : s.shape_of new ≡ s.shape_of old
-  pub slots : s.slots new ≡ s.slots old
-
 -- A crash in calls over a store, or after them, leaves a state's commits, and no more marks than its books say:
 -- whether the disk failed in one of them or not.
 abbrev pub LeavesState : {S : Type 0} → Ghosts S → State → S → S → Type 0

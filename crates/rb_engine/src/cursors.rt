@@ -1,7 +1,7 @@
 //! Cursors opened and closed: calls of memory alone. `Engine::open_cursor` and `Engine::close_cursor` call it.
 ghost use Rattle.std.specs.Prelude.{◌≡◌, ◌≢◌, ◌≤◌, ℕ, IfErr, false};
 ghost use Rattle.rb_sessions.specs.declared.sessions.TheConstants.{SESSIONS};
-ghost use Rattle.rb_engine.specs.Does.{Does, IsInStep, Stands, SameStore};
+ghost use Rattle.rb_engine.specs.Does.{Does, IsInStep, Stands};
 ghost use Rattle.rb_engine.specs.Scanning.{opened_now};
 ghost use Rattle.rb_model.specs.Answers.{plain_answer};
 ghost use Rattle.rb_model.specs.Calls as machine;
@@ -10,6 +10,7 @@ ghost use Rattle.rb_model.specs.State.{State};
 ghost use Rattle.rb_base.specs.Counts.{IsCountedAs, err_is};
 ghost use Rattle.rb_engine.specs.Makes.{Makes};
 ghost use Rattle.rb_model.specs.Calls.{is_disk_fault};
+ghost use Rattle.rb_rollback.specs.Backs.{SameStore};
 
 use crate::checks::{check_session, check_table};
 use crate::engine::Engine;

@@ -4,7 +4,7 @@ ghost use Rattle.std.specs.Result.{is_err};
 ghost use Rattle.rb_base.specs.Counts.{IsCountedAs, err_is};
 ghost use Rattle.rb_engine.specs.Ahead.{IsAhead, IsAt};
 ghost use Rattle.rb_engine.specs.Cleaning.{CleansRead, HasLooked};
-ghost use Rattle.rb_engine.specs.Does.{Does, IsInStep, SameStore, Stands};
+ghost use Rattle.rb_engine.specs.Does.{Does, IsInStep, Stands};
 ghost use Rattle.rb_engine.specs.Makes.{Makes};
 ghost use Rattle.rb_engine.specs.Scanning.{NeedsLost};
 ghost use Rattle.rb_model.specs.Answers.{fetch_answer, LeavesRow};
@@ -15,6 +15,7 @@ ghost use Rattle.rb_model.specs.State.{State};
 ghost use Rattle.rb_sessions.specs.Kept.{kept_at, named};
 ghost use Rattle.rb_sessions.specs.declared.sessions.TheConstants.{SESSIONS};
 ghost use Rattle.law_crash.specs.Made.{TellsLooks};
+ghost use Rattle.rb_rollback.specs.Backs.{SameStore};
 
 use crate::ahead::Ahead;
 use crate::checks::check_session;

@@ -2,7 +2,7 @@
 ghost use Rattle.std.specs.Prelude.{◌≡◌, ℕ, Err, false};
 ghost use Rattle.rb_base.specs.Counts.{IsCountedAs, err_is};
 ghost use Rattle.rb_engine.specs.Cleaning.{HasLooked};
-ghost use Rattle.rb_engine.specs.Does.{Does, IsInStep, SameStore, Stands};
+ghost use Rattle.rb_engine.specs.Does.{Does, IsInStep, Stands};
 ghost use Rattle.rb_engine.specs.Getting.{GetNeedsLost};
 ghost use Rattle.rb_engine.specs.Makes.{Makes};
 ghost use Rattle.law_crash.specs.Made.{TellsLooks};
@@ -10,6 +10,7 @@ ghost use Rattle.rb_model.specs.Answers.{get_answer, LeavesRow};
 ghost use Rattle.rb_model.specs.Calls.{is_disk_fault};
 ghost use Rattle.rb_model.specs.Calls as machine;
 ghost use Rattle.rb_model.specs.State.{State};
+ghost use Rattle.rb_rollback.specs.Backs.{SameStore};
 
 use crate::ahead::Ahead;
 use crate::checks::check_table;

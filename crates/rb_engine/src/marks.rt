@@ -2,12 +2,13 @@
 //! `Engine::checkpoint` call it.
 ghost use Rattle.std.specs.Prelude.{◌≡◌, ◌<◌, false, [], OnOk};
 ghost use Rattle.rb_base.specs.Counts.{IsCountedAs, err_is};
-ghost use Rattle.rb_engine.specs.Does.{Does, IsInStep, LeavesState, SameStore, Stands};
+ghost use Rattle.rb_engine.specs.Does.{Does, IsInStep, LeavesState, Stands};
 ghost use Rattle.rb_model.specs.Answers.{flush_answer, marks_answer, plain_answer};
 ghost use Rattle.rb_model.specs.Calls.{is_disk_fault};
 ghost use Rattle.rb_model.specs.Calls as machine;
 ghost use Rattle.rb_model.specs.State.{State};
 ghost use Rattle.rb_engine.specs.Makes.{Makes};
+ghost use Rattle.rb_rollback.specs.Backs.{SameStore};
 
 use crate::engine::Engine;
 use crate::memory::Memory;

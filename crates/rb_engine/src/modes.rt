@@ -1,13 +1,14 @@
 //! The mode of a transaction, set before it begins. `Engine::set` calls it.
 ghost use Rattle.std.specs.Prelude.{◌≡◌, ◌≢◌, IfErr, false};
 ghost use Rattle.rb_engine.specs.Checks.{is_idle};
-ghost use Rattle.rb_engine.specs.Does.{Does, IsInStep, Stands, SameStore};
+ghost use Rattle.rb_engine.specs.Does.{Does, IsInStep, Stands};
 ghost use Rattle.rb_model.specs.Answers.{plain_answer};
 ghost use Rattle.rb_model.specs.Calls as machine;
 ghost use Rattle.rb_model.specs.State.{State};
 ghost use Rattle.rb_base.specs.Counts.{IsCountedAs, err_is};
 ghost use Rattle.rb_engine.specs.Makes.{Makes};
 ghost use Rattle.rb_model.specs.Calls.{is_disk_fault};
+ghost use Rattle.rb_rollback.specs.Backs.{SameStore};
 
 use crate::checks::check_session;
 use crate::engine::Engine;

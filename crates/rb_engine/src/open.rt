@@ -4,13 +4,14 @@ ghost use Rattle.std.specs.Prelude.{IfOk, IfErr, OnOk, not, true, false};
 ghost use Rattle.std.specs.Result.{is_err};
 ghost use Rattle.rb_base.specs.Counts.{IsCountedAs, err_is, is_failed};
 ghost use Rattle.rb_base.specs.Logs.{Logs};
-ghost use Rattle.rb_engine.specs.Does.{IsInStep, SameStore};
+ghost use Rattle.rb_engine.specs.Does.{IsInStep};
 ghost use Rattle.rb_engine.specs.Opened.{Opened, OpensTo, StaysOpen};
 ghost use Rattle.rb_model.specs.State.{State};
 ghost use Rattle.rb_segment.specs.Segments.{commit_scn};
 ghost use Rattle.rb_sessions.specs.Kept.{fresh};
 ghost use Rattle.rb_sessions.specs.declared.sessions.TheConstants.{SESSIONS};
 ghost use Rattle.rb_sound.specs.Sound.{AreSound};
+ghost use Rattle.rb_rollback.specs.Backs.{SameStore};
 
 use crate::engine::Engine;
 use crate::memory::Memory;

@@ -1,7 +1,7 @@
 //! Sessions that wait: how one begins to, and how one gives up. A write calls the first, `Engine::cancel` the second.
 ghost use Rattle.std.specs.Prelude.{◌≡◌, ◌≢◌, ◌≤◌, true, false, IfErr, IfOk};
 ghost use Rattle.rb_engine.specs.Checks.{NotOld};
-ghost use Rattle.rb_engine.specs.Does.{Does, IsInStep, IsQueue, Stands, SameStore};
+ghost use Rattle.rb_engine.specs.Does.{Does, IsInStep, IsQueue, Stands};
 ghost use Rattle.rb_model.specs.Answers.{plain_answer};
 ghost use Rattle.rb_model.specs.Calls as machine;
 ghost use Rattle.rb_model.specs.Queue.{closes, is_queued, waiting};
@@ -10,6 +10,7 @@ ghost use Rattle.rb_sessions.specs.Kept.{asked_of_pending, holding, kept_at, wit
 ghost use Rattle.rb_base.specs.Counts.{IsCountedAs, err_is};
 ghost use Rattle.rb_engine.specs.Makes.{Makes};
 ghost use Rattle.rb_model.specs.Calls.{is_disk_fault};
+ghost use Rattle.rb_rollback.specs.Backs.{SameStore};
 
 use crate::checks::check_number;
 use crate::engine::Engine;

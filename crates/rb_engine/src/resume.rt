@@ -2,13 +2,14 @@
 ghost use Rattle.std.specs.Prelude.{◌≤◌, ◌≡◌, ◌<◌, ℕ, false, None, Some, Err, IfSome};
 ghost use Rattle.std.specs.Option.{is_some};
 ghost use Rattle.rb_base.specs.Counts.{IsCountedAs};
-ghost use Rattle.rb_engine.specs.Does.{IsInStep, Resumes, SameStore, Stands, resume_fault};
+ghost use Rattle.rb_engine.specs.Does.{IsInStep, Resumes, Stands, resume_fault};
 ghost use Rattle.rb_engine.specs.Lateness.{ResumeNeedsLost};
 ghost use Rattle.rb_engine.specs.Makes.{ResumeMakes};
 ghost use Rattle.law_crash.specs.Made.{TellsLooks};
 ghost use Rattle.rb_model.specs.Queue.{first_ready, ready_count};
 ghost use Rattle.rb_model.specs.State.{State};
 ghost use Rattle.rb_sessions.specs.declared.sessions.TheConstants.{SESSIONS};
+ghost use Rattle.rb_rollback.specs.Backs.{SameStore};
 
 use crate::engine::Engine;
 use crate::memory::Memory;

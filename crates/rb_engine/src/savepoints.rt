@@ -1,7 +1,7 @@
 //! Savepoints: positions in a transaction's live changes. `Engine::savepoint` and `Engine::rollback_to` call it.
 ghost use Rattle.std.specs.Prelude.{◌≡◌, ◌≢◌, ◌≤◌, ℕ, false, Some, IfErr};
 ghost use Rattle.rb_base.specs.Counts.{IsCountedAs, err_is};
-ghost use Rattle.rb_engine.specs.Does.{Does, IsInStep, SameStore, Stands};
+ghost use Rattle.rb_engine.specs.Does.{Does, IsInStep, Stands};
 ghost use Rattle.rb_engine.specs.Makes.{Makes};
 ghost use Rattle.rb_model.specs.Answers.{plain_answer};
 ghost use Rattle.rb_model.specs.Calls.{is_disk_fault};
@@ -10,13 +10,14 @@ ghost use Rattle.rb_model.specs.Names.{name_text};
 ghost use Rattle.rb_model.specs.Queue.{is_queued};
 ghost use Rattle.rb_model.specs.State.{State, savepoint_named};
 ghost use Rattle.rb_sessions.specs.Kept.{kept_at, kept_by};
+ghost use Rattle.rb_rollback.specs.Backs.{SameStore};
 
 use crate::checks::check_session;
 use crate::engine::Engine;
-use crate::finish::put_back;
 use crate::memory::Memory;
 use rb_base::{Store, Workspace, Xid};
 use rb_model::{Name, Refusal};
+use rb_rollback::put_back;
 use rb_sessions::{SAVEPOINTS, SESSIONS};
 
 /// Sets a savepoint of the session behind its present changes, or moves the one of that name there.

@@ -1,10 +1,11 @@
 //! A write of a session. `Engine::write`, `Engine::lock` and `resume` call it.
-ghost use Rattle.std.specs.Prelude.{◌≡◌, ◌≤◌, ℕ, List, [], true, false, not, Err, IfErr, IfOk, OnOk};
+ghost use Rattle.std.specs.Prelude.{◌≡◌, ◌≤◌, ℕ, List, [], length};
+ghost use Rattle.std.specs.Prelude.{true, false, not, Err, IfErr, IfOk, OnOk};
 ghost use Rattle.std.specs.Result.{is_err};
 ghost use Rattle.rb_base.specs.Counts.{IsCountedAs, err_is};
 ghost use Rattle.rb_base.specs.Logs.{Logs};
 ghost use Rattle.rb_base.specs.declared.ids.Xid.{Xid};
-ghost use Rattle.rb_engine.specs.Does.{Does, IsInStep, SameStore, Stands, StopsIf};
+ghost use Rattle.rb_engine.specs.Does.{Does, IsInStep, Stands, StopsIf};
 ghost use Rattle.rb_engine.specs.Lateness.{WriteNeedsLost};
 ghost use Rattle.rb_engine.specs.Makes.{Makes};
 ghost use Rattle.rb_engine.specs.Scanning.{OtherHolds};
@@ -14,10 +15,12 @@ ghost use Rattle.rb_model.specs.Calls.{is_disk_fault};
 ghost use Rattle.rb_model.specs.Calls as machine;
 ghost use Rattle.rb_model.specs.Queue.{ready_count};
 ghost use Rattle.rb_model.specs.State.{State};
+ghost use Rattle.rb_sessions.specs.declared.sessions.TheConstants.{SESSIONS};
 ghost use Rattle.law_blocks.specs.Standing.{env_of};
 ghost use Rattle.law_blocks.specs.States.{BlocksStand};
 ghost use Rattle.rb_steps.specs.Steps.{refusal_of};
 ghost use Rattle.law_sessions.specs.Views.{Remembers};
+ghost use Rattle.rb_rollback.specs.Backs.{SameStore};
 
 use crate::checks::check_write;
 use crate::engine::Engine;
@@ -60,7 +63,7 @@ fn other_holder<T: Store>(
     ensures other { T.tells → (h : State) (xids : List Xid) → BlocksStand h xids (T.blocks store.old)
         → T.shape_of store.old ≡ h.shape
         → Remembers h xids (env_of h.shape (T.blocks store.old)) memory.old.sessions
-        → IfOk result (OtherHolds h s table key) }
+        → length h.sessions ≡ SESSIONS → IfOk result (OtherHolds h s table key) }
     ensures logs { Logs T.Store store.old store.new [] (not (is_err result)) }
     ensures fault { IfErr result (λ why. why ≡ Refusal.DiskFault) }
     ensures stops { StopsIf (is_err result) memory.old memory.new }

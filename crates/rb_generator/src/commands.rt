@@ -4,7 +4,6 @@ ghost use Rattle.std.specs.Prelude.{◌≡◌, ◌+◌, ◌≤◌, ◌^◌, fals
 ghost use Rattle.std.specs.Result.{is_err};
 ghost use Rattle.rb_base.specs.Counts.{IsCounted};
 ghost use Rattle.rb_calls.specs.Since.{IsSince, StandsAs, engine_outside};
-ghost use Rattle.rb_engine.specs.Does.{SameStore};
 ghost use Rattle.rb_generator.specs.Answered.{CallsAnswered, CommandAnswered};
 ghost use Rattle.rb_generator.specs.Counted.{told};
 ghost use Rattle.rb_generator.specs.Ends.{HasCounted};
@@ -12,6 +11,7 @@ ghost use Rattle.rb_lines.specs.Ran.{Did};
 ghost use Rattle.rb_model.specs.Lines.{most_calls};
 ghost use Rattle.rb_model.specs.Out.{Logged};
 ghost use Rattle.rb_script.specs.Commands.{command_of};
+ghost use Rattle.rb_rollback.specs.Backs.{SameStore};
 
 use crate::counts::Counts;
 use arrayvec::ArrayVec;

@@ -4,13 +4,13 @@ ghost use Rattle.std.specs.Fmt.{decimal};
 ghost use Rattle.std.specs.Result.{is_err};
 ghost use Rattle.rb_base.specs.Counts.{IsCounted};
 ghost use Rattle.rb_calls.specs.Since.{IsSince, StandsAs, engine_outside};
-ghost use Rattle.rb_engine.specs.Does.{SameStore};
 ghost use Rattle.rb_generator.specs.Answered.{CommandAnswered};
 ghost use Rattle.rb_generator.specs.Counted.{told};
 ghost use Rattle.rb_generator.specs.Draws.{drawn, next};
 ghost use Rattle.rb_generator.specs.Ends.{HasCounted, HasGenerated};
 ghost use Rattle.rb_lines.specs.Ran.{Did};
 ghost use Rattle.rb_model.specs.Out.{Logged};
+ghost use Rattle.rb_rollback.specs.Backs.{SameStore};
 
 use crate::commands::run_command;
 use crate::counts::Counts;

@@ -3,7 +3,7 @@ use Rattle.std.proofs.Common.{◌≡◌, ◌≢◌, ◌∙◌, ℕ, false, List,
 use Rattle.rb_base.specs.Logs.{Laws}
 use Rattle.rb_base.specs.declared.shape.Shape.{Shape}
 use Rattle.rb_base.specs.declared.store.Store.{Ghosts}
-use Rattle.rb_engine.specs.Does.{Does, EngineView, LeavesState, SameStore}
+use Rattle.rb_engine.specs.Does.{Does, EngineView, LeavesState}
 use Rattle.law_crash.proofs.Steps.{left_with, opens_last, restarts_some}
 use Rattle.law_crash.specs.Crash.{Restarts}
 use Rattle.law_crash.specs.Images.{HasSome}
@@ -14,6 +14,7 @@ use Rattle.rb_shell.specs.Runs.{MadeLast}
 use Rattle.rb_calls.specs.Since.{StandsAs}
 use Rattle.rb_shell.specs.declared.status.Status.{Status}
 use Rattle.rb_shell.specs.declared.status.Status.TheVariants as ends
+use Rattle.rb_rollback.specs.Backs.{SameStore}
 
 module _ {S : Type 0} (s : Ghosts S) (laws : Laws s) (m : Logged) (old new : EngineView S) (is : StandsAs s old m) (going : m.state.stopped ≡ false) where
   -- an image has all to the last group, in the machine's blocks

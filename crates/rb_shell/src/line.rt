@@ -8,7 +8,6 @@ ghost use Rattle.rb_base.specs.Counts.{IsCounted, IsCountedAs, err_is};
 ghost use Rattle.rb_calls.specs.Fits.{FitsCaller};
 ghost use Rattle.rb_calls.specs.Since.{IsSince, StandsAs, engine_outside};
 ghost use Rattle.rb_engine.specs.Ahead.{IsAhead};
-ghost use Rattle.rb_engine.specs.Does.{SameStore};
 ghost use Rattle.rb_lines.specs.Faults.{IsCountedBeside, is_disk, is_sink};
 ghost use Rattle.rb_lines.specs.Ran.{CallsBegun, Did, LineBegun, LineRanAs};
 ghost use Rattle.rb_model.specs.Calls as machine;
@@ -19,6 +18,7 @@ ghost use Rattle.rb_model.specs.Out.{Logged, CommandOut, LineOut, LineSaid};
 ghost use Rattle.rb_model.specs.Queue.{first_ready};
 ghost use Rattle.rb_script.specs.Commands.{command_of};
 ghost use Rattle.rb_shell.specs.Steps.{Calls, IsSkipped, Lost, SaidAs};
+ghost use Rattle.rb_rollback.specs.Backs.{SameStore};
 
 use crate::replies::{OWN_BYTES, Waiting, reply_of, send, tell};
 use arrayvec::ArrayVec;

@@ -2,11 +2,11 @@ use Rattle.std.proofs.Common.{◌≡◌, ◌≤◌, ◌+◌, false, None}
 use Rattle.rb_calls.specs.Resumes.{HeardFew}
 use Rattle.rb_calls.specs.Since.{IsSince, StandsAs, engine_outside}
 use Rattle.rb_calls.proofs.ResumeLemmas.{ResumedSoFar}
-use Rattle.rb_engine.specs.Does.{SameStore}
 use Rattle.rb_lines.specs.Ran.{Did}
 use Rattle.rb_model.specs.Out.{Logged}
 use Rattle.rb_model.specs.Queue.{first_ready, ready_count}
 use Rattle.rb_calls.proofs.resumes.resume_ready.Given as goal
+use Rattle.rb_rollback.specs.Backs.{SameStore}
 
 abbrev pub invariant-loop-turn : goal.invariant-loop-turn
 invariant-loop-turn g l = record {

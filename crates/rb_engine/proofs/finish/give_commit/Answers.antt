@@ -2,9 +2,10 @@ use Rattle.std.proofs.Common.{not, Bool, refl, sym, subst}
 use Rattle.rb_base.specs.Logs.{Laws, flush_logs}
 use Rattle.rb_engine.specs.Finishing.{Commits}
 use Rattle.law_crash.proofs.Owners.{owned_by}
-use Rattle.rb_engine.proofs.FinishLemmas.{commits_done, commits_failed, commits_later, runs_in}
+use Rattle.rb_engine.proofs.FinishLemmas.{commits_done, commits_failed, commits_later}
 use Rattle.rb_engine.proofs.finish.give_commit.Given.{Over}
 use Rattle.rb_engine.proofs.finish.give_commit.Goals as goal
+use Rattle.rb_rollback.proofs.Backs.{runs_in}
 
 laws_of : (g : Over) → Laws g.T.Store
 laws_of g = record {

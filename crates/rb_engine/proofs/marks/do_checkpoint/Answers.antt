@@ -3,10 +3,11 @@ use Rattle.rb_base.specs.Logs.{Flushes, Laws, flush_logs}
 use Rattle.rb_engine.specs.Does.{EngineView, Kept}
 use Rattle.rb_model.specs.Calls as machine
 use Rattle.rb_model.specs.Calls.{MayAnswer}
-use Rattle.rb_engine.proofs.DoesLemmas.{does_fault, does_flushed, fault_survives, survives_same}
+use Rattle.rb_engine.proofs.DoesLemmas.{does_fault, does_flushed, fault_survives}
 use Rattle.rb_engine.proofs.StepLemmas.{in_step_same}
 use Rattle.rb_engine.proofs.marks.do_checkpoint.Given.{Over}
 use Rattle.rb_engine.proofs.marks.do_checkpoint.Goals as goal
+use Rattle.rb_rollback.proofs.Backs.{survives_same}
 
 laws_of : (g : Over) → Laws g.T.Store
 laws_of g = record {

@@ -85,7 +85,7 @@ returns-in-Some-clause-did g c = λ h st.
     let going : h.stopped ≡ false = sym st.knows.stopped ∙ c.in_ok-check_write.ensures.going in
     let new : EngineView _ = record { memory = c.wait_for.new.memory; store = c.other_holder.new.store } in
     holder_waited s st.told (laws_of g) h c.args.memory.now c.args.store.now st going c.args.s c.args.table c.args.key (action_by c.args.op) c.in_ok-check_write.ensures.session first c.other_holder.new.memory new c.in-Some.on c.in_ok-on.ensures.stops c.in_ok-on.ensures.logs
-    (λ xids stand shape knows. subst (λ (o : Option ℕ). OtherHolds h c.args.s c.args.table c.args.key o) c.in-Some.is (c.in_ok-on.ensures.other st.told h xids stand shape knows))
+    (λ xids stand shape knows. subst (λ (o : Option ℕ). OtherHolds h c.args.s c.args.table c.args.key o) c.in-Some.is (c.in_ok-on.ensures.other st.told h xids stand shape knows st.knows.sixteen))
     c.wait_for.result (asked_of_pending c.new.result) c.new.ensures c.wait_for.ensures.ring c.wait_for.ensures.waits
 
 pub returns-in-Some-clause-step : goal.returns-in-Some-clause-step
@@ -125,7 +125,7 @@ returns-in_err-check_late-clause-did g c =
     let held : EngineView _ = record { memory = c.other_holder.new.memory; store = c.other_holder.new.store } in
     let new : EngineView _ = record { memory = c.check_late.new.memory; store = c.check_late.new.store } in
     refused_late s st.told (laws_of g) h c.args.memory.now c.args.store.now st going c.args.s c.args.table c.args.key (action_by c.args.op) c.in_ok-check_write.ensures.session first held c.in_ok-on.ensures.stops loads
-    (λ xids stand shape knows. subst (λ (o : Option ℕ). OtherHolds h c.args.s c.args.table c.args.key o) c.in_default.is (c.in_ok-on.ensures.other st.told h xids stand shape knows))
+    (λ xids stand shape knows. subst (λ (o : Option ℕ). OtherHolds h c.args.s c.args.table c.args.key o) c.in_default.is (c.in_ok-on.ensures.other st.told h xids stand shape knows st.knows.sixteen))
     new c.in_err-check_late.field-0.0 (c.in_err-check_late.ensures.timely st.told h) c.in_err-check_late.ensures.stops c.in_err-check_late.ensures.logs)
 
 pub returns-in_err-check_late-clause-step : goal.returns-in_err-check_late-clause-step
@@ -151,7 +151,7 @@ returns-in_err-check_late-clause-lost g c =
     let held : EngineView _ = record { memory = c.other_holder.new.memory; store = c.other_holder.new.store } in
     let at : c.in_err-check_late.field-0.0 ≡ TooOld scn lost = cc in
     lost_late s st.told (laws_of g) h c.args.memory.now c.args.store.now st going c.args.s c.args.table c.args.key (action_by c.args.op) c.in_ok-check_write.ensures.session first held c.in_ok-on.ensures.stops loads
-    (λ xids stand shape knows. subst (λ (o : Option ℕ). OtherHolds h c.args.s c.args.table c.args.key o) c.in_default.is (c.in_ok-on.ensures.other st.told h xids stand shape knows))
+    (λ xids stand shape knows. subst (λ (o : Option ℕ). OtherHolds h c.args.s c.args.table c.args.key o) c.in_default.is (c.in_ok-on.ensures.other st.told h xids stand shape knows st.knows.sixteen))
     scn lost (λ xids stand shape knows. subst (λ (w : Refusal). IsTimely h xids (s.blocks held.store) c.args.s c.args.table c.args.key (Err w)) at (c.in_err-check_late.ensures.timely st.told h xids stand shape knows)))
 
 -- THE WRITE IS MADE: all that came before only loaded blocks, and left the memory.
@@ -171,7 +171,7 @@ returns-in-Ok-clause-did g c = λ h st.
     let logs = c.in-Ok.ensures.logs.1 in
     let inside = c.memory.view_is in
     made_did s st.told (laws_of g) h c.args.memory.now c.args.store.now st going c.args.s c.args.table c.args.key (action_by c.args.op) c.in_ok-check_write.ensures.session first held c.in_ok-on.ensures.stops loads
-    (λ xids stand shape knows. subst (λ (o : Option ℕ). OtherHolds h c.args.s c.args.table c.args.key o) c.in_default.is (c.in_ok-on.ensures.other st.told h xids stand shape knows))
+    (λ xids stand shape knows. subst (λ (o : Option ℕ). OtherHolds h c.args.s c.args.table c.args.key o) c.in_default.is (c.in_ok-on.ensures.other st.told h xids stand shape knows st.knows.sixteen))
     (c.in_ok-check_late.ensures.timely st.told h) mid same all c.session.result.own own new (record { shape = logs.same_shape; slots = logs.same_slots }) c.in-Ok.xid (λ xids. c.in-Ok.ensures.gives st.told h xids c.args.s)
     (c.wrote.ensures ∙ ap (λ (m : Kept). with_kept m.sessions c.args.s (wrote c.in-Ok.xid (kept_at m.sessions c.args.s))) inside)
     (ap (λ (m : Kept). m.waits) inside) (ap (λ (m : Kept). m.scn) inside) (ap (λ (m : Kept). m.stopped) inside) (ap (λ (m : Kept). m.copies) inside)
@@ -191,7 +191,7 @@ returns-in-Ok-clause-tells g c = λ h st fine.
     let new : EngineView _ = record { memory = record { sessions = c.wrote.new.self; waits = c.memory.inside.waits; scn = c.memory.inside.scn; stopped = c.memory.inside.stopped; copies = c.memory.inside.copies }; store = c.write_step.new.store } in
     let logs = c.in-Ok.ensures.logs.1 in
     made_tells s st.told (laws_of g) h c.args.memory.now c.args.store.now st going c.args.s c.args.table c.args.key (action_by c.args.op) c.in_ok-check_write.ensures.session first held c.in_ok-on.ensures.stops loads
-    (λ xids stand shape knows. subst (λ (o : Option ℕ). OtherHolds h c.args.s c.args.table c.args.key o) c.in_default.is (c.in_ok-on.ensures.other st.told h xids stand shape knows))
+    (λ xids stand shape knows. subst (λ (o : Option ℕ). OtherHolds h c.args.s c.args.table c.args.key o) c.in_default.is (c.in_ok-on.ensures.other st.told h xids stand shape knows st.knows.sixteen))
     (c.in_ok-check_late.ensures.timely st.told h) mid same all c.session.result.own own new (record { shape = logs.same_shape; slots = logs.same_slots }) c.in-Ok.xid (λ xids. c.in-Ok.ensures.gives st.told h xids c.args.s)
 
 pub returns-in-Ok-clause-makes : goal.returns-in-Ok-clause-makes
@@ -208,7 +208,7 @@ returns-in-Ok-clause-makes g c = λ h st fine.
     let new : EngineView _ = record { memory = record { sessions = c.wrote.new.self; waits = c.memory.inside.waits; scn = c.memory.inside.scn; stopped = c.memory.inside.stopped; copies = c.memory.inside.copies }; store = c.write_step.new.store } in
     let logs = c.in-Ok.ensures.logs.1 in
     made_makes s st.told (laws_of g) h c.args.memory.now c.args.store.now st going c.args.s c.args.table c.args.key (action_by c.args.op) c.in_ok-check_write.ensures.session first held c.in_ok-on.ensures.stops loads
-    (λ xids stand shape knows. subst (λ (o : Option ℕ). OtherHolds h c.args.s c.args.table c.args.key o) c.in_default.is (c.in_ok-on.ensures.other st.told h xids stand shape knows))
+    (λ xids stand shape knows. subst (λ (o : Option ℕ). OtherHolds h c.args.s c.args.table c.args.key o) c.in_default.is (c.in_ok-on.ensures.other st.told h xids stand shape knows st.knows.sixteen))
     (c.in_ok-check_late.ensures.timely st.told h) mid same all c.session.result.own own new (record { shape = logs.same_shape; slots = logs.same_slots }) c.in-Ok.xid (λ xids. c.in-Ok.ensures.gives st.told h xids c.args.s)
 
 pub returns-in-Ok-clause-step : goal.returns-in-Ok-clause-step
@@ -260,7 +260,7 @@ returns-in-Err-clause-did g c = λ h st.
     let new : EngineView _ = record { memory = c.refusal.new.memory; store = c.write_step.new.store } in
     let logs = c.in-Err.ensures.logs.1 in
     unmade_did s st.told (laws_of g) h c.args.memory.now c.args.store.now st going c.args.s c.args.table c.args.key (action_by c.args.op) c.in_ok-check_write.ensures.session first held c.in_ok-on.ensures.stops loads
-    (λ xids stand shape knows. subst (λ (o : Option ℕ). OtherHolds h c.args.s c.args.table c.args.key o) c.in_default.is (c.in_ok-on.ensures.other st.told h xids stand shape knows))
+    (λ xids stand shape knows. subst (λ (o : Option ℕ). OtherHolds h c.args.s c.args.table c.args.key o) c.in_default.is (c.in_ok-on.ensures.other st.told h xids stand shape knows st.knows.sixteen))
     (c.in_ok-check_late.ensures.timely st.told h) mid same all c.session.result.own own new (record { shape = logs.same_shape; slots = logs.same_slots }) c.in-Err.fault c.refusal.result c.refusal.ensures.why c.refusal.ensures.stops
     (λ fails xids. c.in-Err.ensures.failed st.told fails h xids c.args.s) (λ goes xids. c.in-Err.ensures.refused st.told goes h xids c.args.s) c.in-Err.ensures.unchanged
 

@@ -1,6 +1,5 @@
 use Rattle.std.proofs.Common.{◌≡◌, ◌≤◌, ◌+◌, false}
 use Rattle.rb_calls.specs.Since.{IsSince, StandsAs, engine_outside}
-use Rattle.rb_engine.specs.Does.{SameStore}
 use Rattle.rb_generator.specs.Counted.{told}
 use Rattle.rb_generator.proofs.AnsweredLemmas.{CallsSoFar}
 use Rattle.rb_lines.specs.Ran.{Did}
@@ -8,6 +7,7 @@ use Rattle.rb_model.specs.Lines.{most_calls}
 use Rattle.rb_model.specs.Out.{Logged}
 use Rattle.rb_script.specs.Commands.{command_of}
 use Rattle.rb_generator.proofs.commands.make_calls.Given as goal
+use Rattle.rb_rollback.specs.Backs.{SameStore}
 
 abbrev pub invariant-loop-k : goal.invariant-loop-k
 invariant-loop-k g l = record {

@@ -1,12 +1,12 @@
 use Rattle.std.proofs.Common.{◌≡◌, ◌≤◌, ◌*◌, false}
 use Rattle.rb_calls.specs.Since.{IsSince, StandsAs, engine_outside}
-use Rattle.rb_engine.specs.Does.{SameStore}
 use Rattle.rb_generator.specs.Counted.{told}
 use Rattle.rb_generator.specs.Draws.{state_after}
 use Rattle.rb_generator.proofs.AnsweredLemmas.{CommandsSoFar}
 use Rattle.rb_lines.specs.Ran.{Did}
 use Rattle.rb_model.specs.Out.{Logged}
 use Rattle.rb_generator.proofs.generator.generate.Given as goal
+use Rattle.rb_rollback.specs.Backs.{SameStore}
 
 abbrev pub invariant-loop-i : goal.invariant-loop-i
 invariant-loop-i g l = record {

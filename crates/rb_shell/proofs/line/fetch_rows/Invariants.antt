@@ -1,7 +1,6 @@
 use Rattle.std.proofs.Common.{◌≡◌, ◌≤◌, false, [], length}
 use Rattle.rb_calls.specs.Since.{IsSince, StandsAs, engine_outside}
 use Rattle.rb_engine.specs.Ahead.{IsAhead}
-use Rattle.rb_engine.specs.Does.{SameStore}
 use Rattle.rb_lines.specs.Ran.{Did}
 use Rattle.rb_model.specs.Lines as lines
 use Rattle.rb_model.specs.Names.{name_text}
@@ -9,6 +8,7 @@ use Rattle.rb_model.specs.Out.{Logged}
 use Rattle.rb_shell.specs.Steps.{SaidSoFar}
 use Rattle.rb_shell.specs.declared.replies.TheConstants.{OWN_BYTES}
 use Rattle.rb_shell.proofs.line.fetch_rows.Given as goal
+use Rattle.rb_rollback.specs.Backs.{SameStore}
 
 abbrev pub invariant-loop-k : goal.invariant-loop-k
 invariant-loop-k g l = record {

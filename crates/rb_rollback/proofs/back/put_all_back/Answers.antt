@@ -1,10 +1,10 @@
 use Rattle.std.proofs.Common.{not, Bool, refl, sym, subst, arith}
 use Rattle.std.specs.Result.{is_err}
 use Rattle.rb_base.specs.Logs.{Laws}
-use Rattle.rb_engine.specs.Finishing.{PutsAllBack}
-use Rattle.rb_engine.proofs.RollbackLemmas.{all_back, few_left, groups_more, logs_counted, logs_number, logs_same, ok_by, put_back_as, there}
-use Rattle.rb_engine.proofs.finish.put_all_back.Given.{Over}
-use Rattle.rb_engine.proofs.finish.put_all_back.Goals as goal
+use Rattle.rb_rollback.specs.Backs.{PutsAllBack}
+use Rattle.rb_rollback.proofs.Backs.{all_back, few_left, groups_more, logs_counted, logs_number, logs_same, ok_by, put_back_as, there}
+use Rattle.rb_rollback.proofs.back.put_all_back.Given.{Over}
+use Rattle.rb_rollback.proofs.back.put_all_back.Goals as goal
 
 laws_of : (g : Over) → Laws g.T.Store
 laws_of g = record {
@@ -62,3 +62,13 @@ returns-clause-holds_back g c =
     let first = put_back_as g.T.Store c.args.xid c.args.count c.args.store.now c.put_back.new.store c.in_ok-put_back.ensures.logs c.in_ok-put_back.ensures.puts_back in
     let all = groups_more g.T.Store c.args.xid c.args.count c.args.count c.args.store.now c.put_back.new.store first c.end_step.new.store (not (is_err c.end_step.result)) c.end_step.ensures.logs in
     ok_by c.end_step.result (λ fine. all.1.between fine (laws_of g))
+
+pub returns-in_err-put_back-clause-logs : goal.returns-in_err-put_back-clause-logs
+returns-in_err-put_back-clause-logs g c =
+    let all = c.in_err-put_back.ensures.logs in
+    (all.0, rw c.from_residual.ensures.0 all.1, (let w = all.2 in omega (arith, w)))
+
+pub returns-clause-logs : goal.returns-clause-logs
+returns-clause-logs g c =
+    let first = put_back_as g.T.Store c.args.xid c.args.count c.args.store.now c.put_back.new.store c.in_ok-put_back.ensures.logs c.in_ok-put_back.ensures.puts_back in
+    groups_more g.T.Store c.args.xid c.args.count c.args.count c.args.store.now c.put_back.new.store first c.end_step.new.store (not (is_err c.end_step.result)) c.end_step.ensures.logs

@@ -1,9 +1,9 @@
 use Rattle.std.proofs.Common.{◌≡◌, not, Bool, false, sym, subst, arith}
 use Rattle.rb_base.specs.Logs.{Laws}
-use Rattle.rb_engine.specs.Finishing.{PutsBack}
-use Rattle.rb_engine.proofs.RollbackLemmas.{Starts, few_left, groups_more, logs_counted, logs_same, none_back, one_fails, one_more, some_back, there}
-use Rattle.rb_engine.proofs.finish.put_back.Given.{Over}
-use Rattle.rb_engine.proofs.finish.put_back.Goals as goal
+use Rattle.rb_rollback.specs.Backs.{PutsBack}
+use Rattle.rb_rollback.proofs.Backs.{Starts, few_left, groups_more, logs_counted, logs_same, none_back, one_fails, one_more, some_back, there}
+use Rattle.rb_rollback.proofs.back.put_back.Given.{Over}
+use Rattle.rb_rollback.proofs.back.put_back.Goals as goal
 
 laws_of : (g : Over) → Laws g.T.Store
 laws_of g = record {

@@ -1,5 +1,5 @@
-use Rattle.rb_engine.proofs.RollbackLemmas.{PutBacks}
-use Rattle.rb_engine.proofs.finish.put_back.Given as goal
+use Rattle.rb_rollback.proofs.Backs.{PutBacks}
+use Rattle.rb_rollback.proofs.back.put_back.Given as goal
 
 abbrev pub invariant-loop-change : goal.invariant-loop-change
 invariant-loop-change g l = PutBacks g.T.Store l.fn.xid l.fn.count l._change l.fn.store l.store
