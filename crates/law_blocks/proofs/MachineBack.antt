@@ -10,7 +10,8 @@ use Rattle.rb_model.specs.State.{State, Session, no_session, with_changes, sessi
 use Rattle.rb_segment.specs.Books.{IsOwned, IsBook}
 use Rattle.rb_segment.specs.Header.{Segment, slot_in, SegmentInOrder}
 use Rattle.rb_segment.specs.Moves.{taken_back, ended, with_header, with_segment}
-use Rattle.law_blocks.specs.NextStates.{with_own, after_end}
+use Rattle.law_blocks.specs.NextStates.{after_end}
+use Rattle.rb_model.specs.NextState.{with_own}
 use Rattle.law_blocks.specs.Says.{says}
 use Rattle.law_blocks.specs.States.{no_xid, InTables, owned, walk_change, newest_first, lives_of, past_of, Owns, BlocksStandAs}
 use Rattle.law_blocks.specs.Values.{StandingAs, slot_of}

@@ -9,7 +9,7 @@ use Rattle.rb_segment.specs.Header.{Segment, record_in}
 use Rattle.rb_segment.specs.Segments.{commit_scn}
 use Rattle.law_blocks.specs.BlockLaws.{HasNext}
 use Rattle.law_blocks.specs.Groups.{IsCleaned, IsPutBack}
-use Rattle.law_blocks.specs.NextStates.{with_own}
+use Rattle.rb_model.specs.NextState.{with_own}
 use Rattle.law_blocks.specs.Says.{says, xid_by}
 use Rattle.law_blocks.specs.Standing.{Standing, env_of, homes_of, logged_of, segments_of}
 use Rattle.law_blocks.specs.States.{BlocksStand, BlocksStandAs, Owns, SegmentsTell, lives_of, newest_first, past_of, walk_change}

@@ -14,7 +14,8 @@ use Rattle.rb_model.specs.State.{State, Cursor, session_own}
 use Rattle.rb_segment.specs.Header.{record_in}
 use Rattle.rb_segment.specs.Segments.{commit_scn}
 use Rattle.law_blocks.specs.Groups.{IsCleaned, IsPutBack, IsCommitted, IsEnded}
-use Rattle.law_blocks.specs.NextStates.{Takes, SameChange, with_own, after_write, after_commit, after_end}
+use Rattle.law_blocks.specs.NextStates.{Takes, SameChange, after_write, after_commit, after_end}
+use Rattle.rb_model.specs.NextState.{with_own}
 use Rattle.law_blocks.specs.Says.{xid_by}
 use Rattle.law_blocks.specs.Standing.{Standing, env_of, logged_of, segments_of}
 use Rattle.law_blocks.specs.States.{BlocksStand, Owns}

@@ -35,10 +35,6 @@ after_write h s t state c = record h {
   books = set h.books (t / 16) (marked (t % 16) (book_ready s (t % 16) state (book_at h.books (t / 16))));
 }
 
--- session s has these changes left, once its last one is put back
-abbrev pub with_own : State → ℕ → List Change → State
-with_own h s front = record h { sessions = set h.sessions (s - 1) (with_changes h s front) }
-
 -- a commit of session s, whose slot is t, at number n, which leaves it these cursors
 abbrev pub after_commit : State → ℕ → ℕ → ℕ → List Cursor → State
 after_commit h s t n cursors = record h {

@@ -17,7 +17,8 @@ use Rattle.rb_segment.specs.Moves.{Ring, next_address}
 use Rattle.rb_segment.specs.Segments.{commit_scn}
 use Rattle.law_blocks.specs.Forgotten.{IsAfter, forgotten_past}
 use Rattle.law_blocks.specs.Fresh.{IsFresh, fresh_home, fresh_state, no_past}
-use Rattle.law_blocks.specs.NextStates.{Takes, SameChange, after_write, with_own, after_commit, after_end}
+use Rattle.law_blocks.specs.NextStates.{Takes, SameChange, after_write, after_commit, after_end}
+use Rattle.rb_model.specs.NextState.{with_own}
 use Rattle.law_blocks.specs.Says.{says, place_of, xid_by}
 use Rattle.law_blocks.specs.Standing.{Standing, segments_of, homes_of, logged_of}
 use Rattle.law_blocks.specs.States.{Owns, BlocksStand, BlocksStandAs, lives_of}

@@ -19,7 +19,7 @@ use Rattle.rb_model.specs.Change.{Change}
 use Rattle.rb_model.specs.NextState.{books_written, change_in, ended, without_owner, written}
 use Rattle.rb_model.specs.Rows.{last_scn}
 use Rattle.rb_model.specs.State.{Cursor, State}
-use Rattle.law_blocks.specs.NextStates.{with_own}
+use Rattle.rb_model.specs.NextState.{with_own}
 use Rattle.law_blocks.specs.Standing.{logged_of}
 use Rattle.law_blocks.specs.States.{BlocksStand}
 

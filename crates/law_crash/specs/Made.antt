@@ -21,7 +21,7 @@ use Rattle.rb_model.specs.Rows.{last_scn}
 use Rattle.rb_model.specs.State.{Cursor, State, session_own}
 use Rattle.rb_segment.specs.Header.{record_in}
 use Rattle.law_blocks.specs.Groups.{IsCleaned, IsCommitted, IsEnded, IsPutBack, last_record}
-use Rattle.law_blocks.specs.NextStates.{with_own}
+use Rattle.rb_model.specs.NextState.{with_own}
 use Rattle.law_blocks.specs.Standing.{env_of, logged_of, segments_of}
 use Rattle.law_blocks.specs.States.{BlocksStand, Owns}
 use Rattle.law_blocks.specs.Writing.{IsWritten}

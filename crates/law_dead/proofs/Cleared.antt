@@ -10,7 +10,7 @@ use Rattle.rb_model.specs.State.{Session, State, no_session, owner_at, session_c
 use Rattle.rb_model.specs.Tests.{holder, holds, is_change, is_in_home, session_numbers}
 use Rattle.law_blocks.specs.States.{Owns}
 use Rattle.law_dead.proofs.Going.{comm, owner_else, owner_gone, own_else}
-use Rattle.law_dead.specs.Dead.{all_gone, all_slots, dead_at, dead_owner, gone, home_cleared, is_dead, without, works_at}
+use Rattle.rb_model.specs.Dead.{all_gone, all_slots, dead_at, dead_owner, gone, home_cleared, is_dead, without, works_at}
 use Rattle.law_dead.specs.Laws.{OwnsOne}
 
 -- the dead of a slot owns it, and its number is above the sixteen

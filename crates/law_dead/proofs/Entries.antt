@@ -16,7 +16,7 @@ use Rattle.law_blocks.specs.Says.{status_of, walk_entry}
 use Rattle.law_blocks.specs.Standing.{env_of, homes_of, segments_of}
 use Rattle.law_blocks.specs.States.{BlocksStand, Owns}
 use Rattle.law_dead.proofs.Cleared.{dead_owns}
-use Rattle.law_dead.specs.Dead.{dead_at, dead_owner, is_dead, works_at}
+use Rattle.rb_model.specs.Dead.{dead_at, dead_owner, is_dead, works_at}
 use Rattle.law_dead.specs.Entries.{IsLiving, Runs, entry_of_key}
 use Rattle.law_home.proofs.Holding.{entry_of_slot}
 use Rattle.law_home.proofs.Lives.{found}

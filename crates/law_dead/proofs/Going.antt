@@ -6,7 +6,7 @@ use Rattle.rb_model.specs.Book.{Book, BookSlot, book_at, free_slot, fresh_book, 
 use Rattle.rb_model.specs.State.{Session, State, no_session, owner_at, session_own}
 use Rattle.rb_segment.proofs.Fresh.{all_same}
 use Rattle.law_blocks.proofs.Seen.{one_slot}
-use Rattle.law_dead.specs.Dead.{without}
+use Rattle.rb_model.specs.Dead.{without}
 
 -- a dead session that has gone
 abbrev Gone : Session

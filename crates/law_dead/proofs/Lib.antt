@@ -3,4 +3,3 @@ pub mod Entries
 pub mod Fewest
 pub mod Going
 pub mod Sweeping
-mod Worked

@@ -5,10 +5,10 @@ use Rattle.std.proofs.lemmas.List.{get_or-set_other, length-set}
 use Rattle.std.specs.List.{range_with_len}
 use Rattle.rb_model.specs.Change.{Change}
 use Rattle.rb_model.specs.State.{Session, State, no_session, session_own, with_changes}
-use Rattle.law_blocks.specs.NextStates.{with_own}
+use Rattle.rb_model.specs.NextState.{with_own}
 use Rattle.law_dead.proofs.Cleared.{apart, dead_on, one_on}
 use Rattle.law_dead.proofs.Going.{own_else}
-use Rattle.law_dead.specs.Dead.{all_slots, dead_at, dead_changes, dead_changes_at, swept, swept_at, swept_count, swept_from, without}
+use Rattle.rb_model.specs.Dead.{all_slots, dead_at, dead_changes, dead_changes_at, swept, swept_at, swept_count, swept_from, without}
 use Rattle.law_dead.specs.Laws.{OwnsOne}
 
 -- what a sweep of slot u leaves of the slots that it hasn't come to

@@ -5,9 +5,9 @@ use Rattle.rb_model.specs.State.{State, session_count}
 use Rattle.rb_model.specs.Tests.{holder}
 use Rattle.law_blocks.specs.Standing.{env_of}
 use Rattle.law_blocks.specs.States.{BlocksStand, Owns}
-use Rattle.law_dead.specs.Clearing.{IsFewest}
-use Rattle.law_dead.specs.Dead.{all_slots, dead_at, dead_changes, home_cleared, segment_cleared}
-use Rattle.law_dead.specs.Dead.{swept, swept_count, without, works_at}
+use Rattle.rb_model.specs.Clearing.{IsFewest}
+use Rattle.rb_model.specs.Dead.{all_slots, dead_at, dead_changes, home_cleared, segment_cleared}
+use Rattle.rb_model.specs.Dead.{swept, swept_count, without, works_at}
 use Rattle.law_dead.specs.Entries.{IsLiving, Runs, entry_of_key}
 
 -- What the proofs of a state say of its owners: an owner is one of the sessions, and has one slot.

@@ -1,4 +1,2 @@
-pub mod Clearing
-pub mod Dead
 pub mod Entries
 pub mod Laws

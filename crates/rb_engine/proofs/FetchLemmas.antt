@@ -283,7 +283,7 @@ module _ {S : Type 0} (s : Ghosts S) (laws : Laws s) (h : State) (old : EngineVi
 
 -- no early test answers that it is too old
 pub not_old : (h : State) (who : ℕ) (why : Refusal) (scn lost : ℕ) → Refuses (session_tests h who) why → why ≡ TooOld scn lost → ⊥
-not_old h who why scn lost refuses is = first h.stopped (not (is_session h who)) (is_waiting h who) (ap (λ (w : Refusal). Refused w) (sym is) ∙ refuses.1)
+not_old h who why scn lost refuses is = first h.stopped (not (is_session who)) (is_waiting h who) (ap (λ (w : Refusal). Refused w) (sym is) ∙ refuses.1)
   where
     first : (a b c : Bool) → Refused (TooOld scn lost) ≡ machine.first_of ((a, Refused Stopped) ∷ (b, Refused NoSession) ∷ (c, Refused Waiting) ∷ []) machine.Done → ⊥
     first true b c e = cc

@@ -30,7 +30,7 @@ use Rattle.rb_model.specs.Change.{Change}
 use Rattle.rb_model.specs.NextState.{After, Ends, EndsAs, Grows, GrowsBy, committed, cursors_of, ended, freeing, not_present}
 use Rattle.rb_model.specs.Queue.{freed_by, is_queued}
 use Rattle.rb_model.specs.Rows.{last_scn}
-use Rattle.rb_model.specs.State.{Cursor, State, all_safe, is_session, no_session, session_own}
+use Rattle.rb_model.specs.State.{Cursor, State, all_safe, is_session, no_session, session_count, session_own}
 use Rattle.rb_model.specs.declared.refusal.Refusal.TheVariants.{DiskFault}
 use Rattle.rb_sessions.specs.Kept.{KeptSession, kept_at, with_kept}
 use Rattle.rb_sessions.specs.Kept as table
@@ -144,14 +144,14 @@ no_write AtOnce who s t k a is = cc
 no_write Later who s t k a is = cc
 
 -- a session of that number is there
-pub is_there : (h : State) (who : ℕ) → (1 ≤ who) × (who ≤ SESSIONS) → length h.sessions ≡ SESSIONS → is_session h who ≡ true
-is_there h who there sixteen = and_from (nat_le 1 who) (nat_le who (length h.sessions)) (le-leb 1 who there.0) (le-leb who (length h.sessions) (omega (arith, there, sixteen)))
+pub is_there : (who : ℕ) → (1 ≤ who) × (who ≤ SESSIONS) → is_session who ≡ true
+is_there who there = and_from (nat_le 1 who) (nat_le who session_count) (le-leb 1 who there.0) (le-leb who session_count there.1)
 
 -- no early test of a call of it applies, where it isn't in the queue
 pub no_early : (h : State) (kept : Kept) (who : ℕ) → Knows h kept → h.stopped ≡ false → (1 ≤ who) × (who ≤ SESSIONS) → is_queued who kept.waits ≡ false → none_applies (session_tests h who) ≡ true
 no_early h kept who knows going there free =
     let out : is_queued who h.queue ≡ false = ap (is_queued who) (sym (knows.queue going).waits) ∙ free in
-    rw (going, is_there h who there knows.sixteen, out) refl
+    rw (going, is_there who there, out) refl
 
 module _ {S : Type 0} (s : Ghosts S) (told : s.tells) (laws : Laws s) (h : State) (old : EngineView S) (who : ℕ) (x : Xid) (st : Stands s h old) (going : h.stopped ≡ false)
     (there : (1 ≤ who) × (who ≤ SESSIONS)) (own : (kept_at old.memory.sessions who).own ≡ Some x) where

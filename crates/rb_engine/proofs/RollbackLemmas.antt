@@ -23,7 +23,7 @@ use Rattle.rb_model.specs.NextState.{EndsAs, cursors_of, ended, freeing, left_op
 use Rattle.rb_model.specs.State.{Savepoint, Session, State, savepoint_of, session_of, session_own, with_changes}
 use Rattle.rb_sessions.specs.Kept.{KeptSession, kept_at, rolled_back, with_kept}
 use Rattle.rb_sessions.specs.Kept.{committed as kept_committed, rolled_to as kept_rolled_to}
-use Rattle.law_blocks.specs.NextStates.{with_own}
+use Rattle.rb_model.specs.NextState.{with_own}
 use Rattle.law_blocks.specs.Standing.{env_of}
 use Rattle.rb_steps.proofs.LeftOwn.{own_left}
 use Rattle.law_sessions.specs.Views.{Remembers}

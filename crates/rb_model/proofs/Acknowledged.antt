@@ -3,8 +3,10 @@ use Rattle.std.proofs.Common.{◌≡◌, ◌⊎◌, ◌≤◌, ◌<◌, ◌∙�
 use Rattle.std.specs.Bool.{MatchBool}
 use Rattle.std.specs.Prelude.{◌&&◌, if◌then◌else◌, nat_le, not, slice_get}
 use Rattle.std.proofs.lemmas.Bool.{cond_both}
-use Rattle.rb_model.specs.Calls.{Call, Write, Commit, CommitLater, Flush, Rollback, SetMode, SetSavepoint, RollbackTo, OpenCursor, Fetch, CloseCursor, Get, Cancel, Marks, Show, Checkpoint}
-use Rattle.rb_model.specs.Calls.{Answer, Done, Waits, Committed, Numbered, Flushed, Given, End, Absent, Marked, Shown, Idle, Refused, MayAnswer, LaterTests, early, later, fault, old}
+use Rattle.rb_model.specs.Calls.{Call, Write, Commit, CommitLater, Flush, Sweep, Rollback, SetMode, SetSavepoint, RollbackTo, OpenCursor, Fetch, CloseCursor, Get, Cancel, Marks, Show, Checkpoint}
+use Rattle.rb_model.proofs.DeadLemmas.{swept_rest}
+use Rattle.rb_model.specs.Dead.{all_slots}
+use Rattle.rb_model.specs.Calls.{Answer, Done, Waits, Committed, Numbered, Flushed, Swept, Given, End, Absent, Marked, Shown, Idle, Refused, MayAnswer, LaterTests, early, later, fault, old}
 use Rattle.rb_model.specs.Calls.{adds_now, activity_of, got, is_idle, rows_now, rows_seen, early_tests, first_of, given, granted, is_disk_fault, is_fault, is_empty, next_row, refused_by, serial_tests, waited, write_tests}
 use Rattle.rb_model.specs.NextState.{After, AfterGrant, AfterWait, EndsAs, committed, unqueued}
 use Rattle.rb_model.specs.Out.{CallsOut, LineSaid, Logged, Out, Outside, ResumesOut, bad, command, goes_on, skipped, too_long}
@@ -79,6 +81,7 @@ grant_kept h h2 (Cancel s) e = rests h h2 _ e refl refl
 grant_kept h h2 (Marks seg) e = rests h h2 h e refl refl
 grant_kept h h2 (Show s) e = rests h h2 h e refl refl
 grant_kept h h2 Flush e = all_kept h h2 e
+grant_kept h h2 (Sweep k) e = let rest = swept_rest k (all_slots h) h in rests h h2 _ e rest.safe rest.commits
 grant_kept h h2 Checkpoint e = all_kept h h2 e
 
 wait_kept : (h h2 : State) (c : Call) (on : ℕ) → AfterWait h c on h2 → Kept h h2
@@ -97,6 +100,7 @@ wait_kept h h2 (Get s table key) on e = rests h h2 h e refl refl
 wait_kept h h2 (Marks seg) on e = rests h h2 h e refl refl
 wait_kept h h2 (Show s) on e = rests h h2 h e refl refl
 wait_kept h h2 Flush on e = rests h h2 h e refl refl
+wait_kept h h2 (Sweep k) on e = rests h h2 h e refl refl
 wait_kept h h2 Checkpoint on e = rests h h2 h e refl refl
 
 pub after_kept : (h h2 : State) (c : Call) (r : Answer) → After h c r h2 → Kept h h2
@@ -105,6 +109,7 @@ after_kept h h2 c (Waits on) after = wait_kept h h2 c on after
 after_kept h h2 c (Committed n) after = grant_kept h h2 c after
 after_kept h h2 c (Numbered n) after = grant_kept h h2 c after
 after_kept h h2 c (Flushed n) after = grant_kept h h2 c after
+after_kept h h2 c (Swept n) after = grant_kept h h2 c after
 after_kept h h2 c (Given key value) after = grant_kept h h2 c after
 after_kept h h2 c End e = rests h h2 h e refl refl
 after_kept h h2 c Absent e = rests h h2 h e refl refl
@@ -201,6 +206,7 @@ quiet_early h (Cancel s) = (refl, (refl, tt))
 quiet_early h (Marks seg) = (refl, tt)
 quiet_early h (Show s) = (refl, (refl, tt))
 quiet_early h Flush = (refl, tt)
+quiet_early h (Sweep k) = (refl, tt)
 quiet_early h Checkpoint = (refl, tt)
 
 silent_waited : (queue : List Waiter) (s : ℕ) (on : Option ℕ) → Silent (waited queue s on)
@@ -237,6 +243,7 @@ quiet_later h logged (Get s table key) tests is = subst Quiet (sym is) tt
 quiet_later h logged (Marks seg) tests is = subst Quiet (sym is) tt
 quiet_later h logged (Show s) tests is = subst Quiet (sym is) tt
 quiet_later h logged Flush tests is = subst Quiet (sym is) tt
+quiet_later h logged (Sweep k) tests is = subst Quiet (sym is) tt
 quiet_later h logged Checkpoint tests is = subst Quiet (sym is) tt
 
 of_good : (tests : List (Bool × Answer)) (good r : Answer) → Quiet tests → r ≡ first_of tests good → 0 < kind r → r ≡ good
@@ -300,6 +307,7 @@ committed_safe h h2 logged n (Get s table key) may after = absurd (other_kind h 
 committed_safe h h2 logged n (Show s) may after = absurd (other_kind h logged (Show s) (Committed n) (omega arith) may (quiet_shown h s))
 committed_safe h h2 logged n (Cancel s) may after = absurd (other_kind h logged (Cancel s) (Committed n) (omega arith) may refl)
 committed_safe h h2 logged n (Marks seg) may after = absurd (other_kind h logged (Marks seg) (Committed n) (omega arith) may refl)
+committed_safe h h2 logged n (Sweep k) may after = absurd (other_kind h logged (Sweep k) (Committed n) (omega arith) may refl)
 committed_safe h h2 logged n Checkpoint may after = absurd (other_kind h logged Checkpoint (Committed n) (omega arith) may refl)
 committed_safe h h2 logged n (Commit s) may (inl (own, (g, i, owned, e))) =
     let next : n ≡ last_scn h.commits + 1 = ap number_in (told_commit h s Committed (Committed n) (omega arith) (granted_if h logged (Commit s) (Committed n) (omega arith) may)) in
@@ -327,6 +335,7 @@ flushed_safe h h2 logged n (Get s table key) may after = absurd (other_kind h lo
 flushed_safe h h2 logged n (Show s) may after = absurd (other_kind h logged (Show s) (Flushed n) (omega arith) may (quiet_shown h s))
 flushed_safe h h2 logged n (Cancel s) may after = absurd (other_kind h logged (Cancel s) (Flushed n) (omega arith) may refl)
 flushed_safe h h2 logged n (Marks seg) may after = absurd (other_kind h logged (Marks seg) (Flushed n) (omega arith) may refl)
+flushed_safe h h2 logged n (Sweep k) may after = absurd (other_kind h logged (Sweep k) (Flushed n) (omega arith) may refl)
 flushed_safe h h2 logged n Checkpoint may after = absurd (other_kind h logged Checkpoint (Flushed n) (omega arith) may refl)
 flushed_safe h h2 logged n (Commit s) may after =
     let one : 3 ≡ 1 = ap kind (told_commit h s Committed (Flushed n) (omega arith) (granted_if h logged (Commit s) (Flushed n) (omega arith) may)) in absurd (omega (arith, one))

@@ -1,8 +1,10 @@
 pub mod Acknowledged
 pub mod BookLemmas
+pub mod DeadLemmas
 mod Worked
 mod WorkedBooks
 mod WorkedCalls
+mod WorkedDead
 mod WorkedKeys
 mod WorkedModes
 mod WorkedQueues

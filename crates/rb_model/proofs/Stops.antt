@@ -4,7 +4,9 @@ use Rattle.std.proofs.Common.{◌≡◌, ◌≢◌, ◌∙◌, inl, inr, ⊎_eli
 use Rattle.std.proofs.lemmas.Bool.{cond_both, cases_Bool, false≢true}
 use Rattle.rb_base.specs.Counts.{err_is}
 use Rattle.rb_model.specs.Answers.{write_answer}
-use Rattle.rb_model.specs.Calls.{Call, Write, Commit, CommitLater, Flush, Numbered, Flushed, Rollback, SetMode, SetSavepoint, RollbackTo, OpenCursor, Fetch, CloseCursor, Get, Cancel, Marks, Show, Checkpoint, Answer, Done, Waits, Committed, Given, End, Absent, Marked, Shown, Idle, Refused, is_disk_fault, is_fault}
+use Rattle.rb_model.specs.Calls.{Call, Write, Commit, CommitLater, Flush, Sweep, Numbered, Flushed, Swept, Rollback, SetMode, SetSavepoint, RollbackTo, OpenCursor, Fetch, CloseCursor, Get, Cancel, Marks, Show, Checkpoint, Answer, Done, Waits, Committed, Given, End, Absent, Marked, Shown, Idle, Refused, is_disk_fault, is_fault}
+use Rattle.rb_model.proofs.DeadLemmas.{swept_rest}
+use Rattle.rb_model.specs.Dead.{all_slots}
 use Rattle.rb_model.specs.NextState.{After, AfterGrant, AfterWait, EndsAs}
 use Rattle.rb_model.specs.State.{State, Cursor}
 use Rattle.rb_model.specs.declared.refusal.Refusal.{Refusal}
@@ -55,6 +57,7 @@ grant_stays h h2 (Show s) e = same_stays h h2 e
 grant_stays h h2 (Cancel s) e = as_stays h h2 _ e refl refl refl
 grant_stays h h2 (Marks seg) e = same_stays h h2 e
 grant_stays h h2 Flush e = as_stays h h2 _ e refl refl refl
+grant_stays h h2 (Sweep k) e = let rest = swept_rest k (all_slots h) h in as_stays h h2 _ e rest.shape rest.many rest.stopped
 grant_stays h h2 Checkpoint e = as_stays h h2 _ e refl refl refl
 
 wait_stays : (h h2 : State) (c : Call) (on : ℕ) → AfterWait h c on h2 → Stays h h2
@@ -73,6 +76,7 @@ wait_stays h h2 (Show s) on e = same_stays h h2 e
 wait_stays h h2 (Cancel s) on e = same_stays h h2 e
 wait_stays h h2 (Marks seg) on e = same_stays h h2 e
 wait_stays h h2 Flush on e = same_stays h h2 e
+wait_stays h h2 (Sweep k) on e = same_stays h h2 e
 wait_stays h h2 Checkpoint on e = same_stays h h2 e
 
 -- any other refusal leaves the state
@@ -89,6 +93,7 @@ fine_stays h h2 c (Waits on) is after = wait_stays h h2 c on after
 fine_stays h h2 c (Committed n) is after = grant_stays h h2 c after
 fine_stays h h2 c (Numbered n) is after = grant_stays h h2 c after
 fine_stays h h2 c (Flushed n) is after = grant_stays h h2 c after
+fine_stays h h2 c (Swept n) is after = grant_stays h h2 c after
 fine_stays h h2 c (Given key value) is after = grant_stays h h2 c after
 fine_stays h h2 c End is after = same_stays h h2 after
 fine_stays h h2 c Absent is after = same_stays h h2 after
@@ -104,6 +109,7 @@ after_stops h h2 c (Waits on) is after = absurd (false≢true is)
 after_stops h h2 c (Committed n) is after = absurd (false≢true is)
 after_stops h h2 c (Numbered n) is after = absurd (false≢true is)
 after_stops h h2 c (Flushed n) is after = absurd (false≢true is)
+after_stops h h2 c (Swept n) is after = absurd (false≢true is)
 after_stops h h2 c (Given key value) is after = absurd (false≢true is)
 after_stops h h2 c End is after = absurd (false≢true is)
 after_stops h h2 c Absent is after = absurd (false≢true is)

@@ -61,8 +61,8 @@ reads_own = refl
 reads_others : granted changed (Get 2 1 1) ≡ Given 1 b
 reads_others = refl
 
-no_session_three : first_of (early_tests start (Get 3 1 1)) Done ≡ Refused NoSession
-no_session_three = refl
+no_session_seventeen : first_of (early_tests start (Get 17 1 1)) Done ≡ Refused NoSession
+no_session_seventeen = refl
 
 no_table_two : first_of (early_tests start (Get 1 2 1)) Done ≡ Refused NoTable
 no_table_two = refl

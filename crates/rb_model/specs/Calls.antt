@@ -9,6 +9,7 @@ use Rattle.std.specs.Str.{bytes_eq}
 use Rattle.rb_base.specs.declared.sizes.TheConstants.{VALUE_BYTES, WORN}
 use Rattle.rb_model.specs.Book.{Owner, IsBegun, book_at, is_full}
 pub use Rattle.rb_model.specs.Change.{Action, Insert, Update, Upsert, Delete, Lock}
+use Rattle.rb_model.specs.Dead.{all_slots, swept_count}
 use Rattle.rb_model.specs.Full.{full_block}
 use Rattle.rb_model.specs.Isolation.{is_read_committed, is_read_only, mode_of, snapshot_at}
 use Rattle.rb_model.specs.Late.{late}
@@ -54,6 +55,8 @@ pub data Call : Type 0 where
   Show : (session : ℕ) → Call
   -- all that waits is made last
   Flush : Call
+  -- so many changes of dead transactions are put back, in the order of their slots
+  Sweep : (changes : ℕ) → Call
   Checkpoint : Call
 
 pub data Answer : Type 0 where
@@ -67,6 +70,8 @@ pub data Answer : Type 0 where
   Numbered : ℕ → Answer
   -- all commits are acknowledged, and this is the number of the last
   Flushed : ℕ → Answer
+  -- so many changes of dead transactions were put back
+  Swept : ℕ → Answer
   -- the next row has this key and value
   Given : (key : ℕ) (value : List ℕ) → Answer
   -- all rows are given
@@ -203,7 +208,7 @@ is_unbegun session = is_read_committed session.isolation && (is_empty session.ow
 
 -- the tests of a call that names a session
 abbrev pub number_tests : State → ℕ → List (Bool × Answer)
-number_tests h s = (h.stopped, Refused Stopped) ∷ (not (is_session h s), Refused NoSession) ∷ []
+number_tests h s = (h.stopped, Refused Stopped) ∷ (not (is_session s), Refused NoSession) ∷ []
 
 -- and of each one that a session that waits can't make
 abbrev pub session_tests : State → ℕ → List (Bool × Answer)
@@ -230,6 +235,7 @@ early_tests h (Cancel s) = number_tests h s
 early_tests h (Marks seg) = (h.stopped, Refused Stopped) ∷ []
 early_tests h (Show s) = number_tests h s
 early_tests h Flush = (h.stopped, Refused Stopped) ∷ []
+early_tests h (Sweep k) = (h.stopped, Refused Stopped) ∷ []
 early_tests h Checkpoint = (h.stopped, Refused Stopped) ∷ []
 
 -- the write makes a row, as its session sees the key now
@@ -272,6 +278,7 @@ name_tests h (Get s table key) = []
 name_tests h (Marks seg) = []
 name_tests h (Show s) = []
 name_tests h Flush = []
+name_tests h (Sweep k) = []
 name_tests h Checkpoint = []
 
 -- a row as the answer to a fetch, or the end
@@ -332,6 +339,7 @@ granted h (Cancel s) = Done
 granted h (Marks seg) = Marked seg (book_at h.books seg).writes (book_at h.books seg).lost
 granted h (Show s) = if is_idle h s then Idle else Shown s (activity_of h s)
 granted h Flush = Flushed (last_scn h.commits)
+granted h (Sweep k) = Swept (swept_count k (all_slots h) h)
 granted h Checkpoint = Done
 
 -- the answer of the first test that applies, or else the good one

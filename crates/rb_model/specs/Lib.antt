@@ -3,6 +3,9 @@ pub mod Book
 pub mod BookLaws
 pub mod Calls
 pub mod Change
+pub mod Clearing
+pub mod Dead
+pub mod Ended
 pub mod Full
 pub mod Isolation
 pub mod KeyLaws

@@ -8,7 +8,7 @@ use Rattle.std.specs.Fmt.{decimal}
 use Rattle.rb_model.specs.NameTest.{is_name}
 use Rattle.rb_base.specs.declared.shape.Shape.{Shape}
 use Rattle.rb_model.specs.Calls.{Action, Insert, Update, Upsert, Delete, Lock, Answer, Done, Waits, Committed}
-use Rattle.rb_model.specs.Calls.{Numbered, Flushed, Given, End, Absent, Marked, Shown, Idle, Refused}
+use Rattle.rb_model.specs.Calls.{Numbered, Flushed, Given, End, Absent, Marked, Shown, Swept, Idle, Refused}
 use Rattle.rb_model.specs.Calls.{number_text, refusal_text}
 use Rattle.rb_model.specs.Calls.{Call, Write, Commit, CommitLater, Rollback, SetMode, SetSavepoint, RollbackTo}
 use Rattle.rb_model.specs.Calls.{OpenCursor, Fetch, CloseCursor, Get, Cancel, Marks, Show, Flush, Checkpoint}
@@ -265,6 +265,7 @@ answer_text (Waits on) = codes "waits" ++ number_text on
 answer_text (Committed n) = codes "committed" ++ number_text n
 answer_text (Numbered n) = codes "numbered" ++ number_text n
 answer_text (Flushed n) = codes "flushed" ++ number_text n
+answer_text (Swept n) = codes "swept" ++ number_text n
 answer_text (Given key value) = codes "row" ++ number_text key ++ 32 ∷ value
 answer_text End = codes "end"
 answer_text Absent = codes "not found"

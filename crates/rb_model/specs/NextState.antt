@@ -1,23 +1,25 @@
 -- The state of the machine after each call, and how many groups the call gives the log.
 use Rattle.std.specs.Prelude.{◌≡◌, ◌⊎◌, ◌≤◌, ℕ, suc, ◌+◌, ◌-◌, Bool, true, false, not}
 use Rattle.std.specs.Prelude.{◌&&◌, nat_lt}
-use Rattle.std.specs.Prelude.{if◌then◌else◌, cond, List, [], ◌∷◌, ◌++◌, length, set, map, filter, take}
+use Rattle.std.specs.Prelude.{if◌then◌else◌, cond, List, [], ◌∷◌, ◌++◌, length, set, filter, take}
 use Rattle.std.specs.Prelude.{Some}
 use Rattle.std.specs.Str.{bytes_eq}
 use Rattle.rb_model.specs.Book.{Book, book_at, finished, left, marked, taken}
 use Rattle.rb_model.specs.Calls.{Call, Write, Commit, CommitLater, Rollback, OpenCursor, Fetch, CloseCursor, Get}
-use Rattle.rb_model.specs.Calls.{Marks, Show, Flush, Checkpoint}
-use Rattle.rb_model.specs.Calls.{Answer, Done, Waits, Committed, Numbered, Flushed, Given, End, Absent, Marked}
-use Rattle.rb_model.specs.Calls.{Shown, Idle, Refused}
+use Rattle.rb_model.specs.Calls.{Marks, Show, Flush, Sweep, Checkpoint}
+use Rattle.rb_model.specs.Calls.{Answer, Done, Waits, Committed, Numbered, Flushed, Given, End, Absent}
+use Rattle.rb_model.specs.Calls.{Marked, Shown, Swept, Idle, Refused}
 use Rattle.rb_model.specs.Calls.{is_disk_fault}
 use Rattle.rb_model.specs.Calls.{Action, Insert, Update, Upsert, Delete, Lock}
 use Rattle.rb_model.specs.Calls.{SetMode, SetSavepoint, RollbackTo, Cancel}
 use Rattle.rb_model.specs.Calls.{is_empty, without_savepoint}
 use Rattle.rb_model.specs.Calls.{Owned, HasNoSlot, WritesIn, has_slot}
 use Rattle.rb_model.specs.Change.{Asked, Change, Kind, Put, Gone, Held}
+use Rattle.rb_model.specs.Dead.{all_slots, dead_owed, swept}
+pub use Rattle.rb_model.specs.Ended.{not_present, ended, without_owner, with_own}
 use Rattle.rb_model.specs.Isolation.{isolation_at, snapshot_at}
 use Rattle.rb_model.specs.Queue.{freed_by, left_by, waiting}
-use Rattle.rb_model.specs.State.{State, Cursor, Savepoint, no_session, isolation_of, savepoint_of, session_of}
+use Rattle.rb_model.specs.State.{State, Cursor, Savepoint, isolation_of, savepoint_of, session_of}
 use Rattle.rb_model.specs.State.{all_safe, session_own, with_changes}
 use Rattle.rb_model.specs.Rows.{last_scn}
 use Rattle.rb_model.specs.declared.mode.Isolation.{Isolation}
@@ -55,22 +57,9 @@ written h s g i c = record h {
 abbrev pub cursors_of : State → ℕ → List Cursor
 cursors_of h s = (session_of h s).cursors
 
-abbrev pub not_present : Cursor → Cursor
-not_present c = record c { present = false }
-
 -- the cursors that stay as the changes behind the first `kept` go: those of the present transaction that see more close
 abbrev pub left_open : ℕ → List Cursor → List Cursor
 left_open kept cursors = filter (λ c. not (c.present && nat_lt kept (length c.own))) cursors
-
--- the session as a new one but for these cursors, which are of no present transaction
-abbrev pub ended : State → ℕ → List Cursor → State
-ended h s cursors = record h {
-  sessions = set h.sessions (s - 1) (record no_session { cursors = map not_present cursors });
-}
-
--- and its slot without an owner
-abbrev pub without_owner : ℕ → ℕ → State → State
-without_owner g i h = record h { books = set h.books g (left i (book_at h.books g)) }
 
 -- the state after a commit of a session with changes, whose slot is i of segment g
 abbrev pub committed : State → ℕ → ℕ → ℕ → State
@@ -187,6 +176,7 @@ AfterGrant h (Cancel s) h2 = h2 ≡ unqueued h s
 AfterGrant h (Marks seg) h2 = h2 ≡ h
 AfterGrant h (Show s) h2 = h2 ≡ h
 AfterGrant h Flush h2 = h2 ≡ all_safe h
+AfterGrant h (Sweep k) h2 = h2 ≡ swept k (all_slots h) h
 AfterGrant h Checkpoint h2 = h2 ≡ all_safe h
 
 -- after a call that has to wait for that session: a write
@@ -202,6 +192,7 @@ After h call (Waits on) h2 = AfterWait h call on h2
 After h call (Committed n) h2 = AfterGrant h call h2
 After h call (Numbered n) h2 = AfterGrant h call h2
 After h call (Flushed n) h2 = AfterGrant h call h2
+After h call (Swept n) h2 = AfterGrant h call h2
 After h call (Given key value) h2 = AfterGrant h call h2
 After h call End h2 = h2 ≡ h
 After h call Absent h2 = h2 ≡ h
@@ -212,7 +203,7 @@ After h call (Refused why) h2 = h2 ≡ (if is_disk_fault why then record h { sto
 
 -- How many groups a call with that answer gives the log: a write that is done one; a commit with changes one; the end
 -- of a transaction without one, one for each change that is put back and one for its slot; a rollback to a savepoint
--- one for each change that is put back.
+-- one for each change that is put back; a sweep one for each change, and one for each slot that it ends.
 abbrev pub Ends : State → ℕ → ℕ → ℕ → Type 0
 Ends h s back n =
     ((g : ℕ) × (i : ℕ) × Owned h s g i × (n ≡ back + 1)) ⊎ (HasNoSlot h s × (n ≡ 0))
@@ -238,6 +229,7 @@ GrowsBy h (Cancel s) n = n ≡ 0
 GrowsBy h (Marks seg) n = n ≡ 0
 GrowsBy h (Show s) n = n ≡ 0
 GrowsBy h Flush n = n ≡ 0
+GrowsBy h (Sweep k) n = n ≡ dead_owed h - dead_owed (swept k (all_slots h) h)
 GrowsBy h Checkpoint n = n ≡ 0
 
 -- A fetch may clean the blocks that it reads, by one group each: so it gives the log any number of groups up to the
@@ -257,6 +249,7 @@ Grows h call Done n = GrowsBy h call n
 Grows h call (Committed m) n = GrowsBy h call n
 Grows h call (Numbered m) n = GrowsBy h call n
 Grows h call (Flushed m) n = GrowsBy h call n
+Grows h call (Swept m) n = GrowsBy h call n
 Grows h call (Waits on) n = n ≡ 0
 Grows h call (Given key value) n = ReadsBy h call n
 Grows h call End n = ReadsBy h call n

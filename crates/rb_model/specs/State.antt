@@ -44,7 +44,8 @@ pub record Session : Type 0 where
 pub record State : Type 0 where
   pub shape : Shape
   pub commits : Commits
-  -- numbered from 1
+  -- Numbered from 1: the sixteen that calls name, and behind them each transaction that had a table slot as the file was
+  -- opened.
   pub sessions : List Session
   -- one for each segment, numbered from 0
   pub books : List Book
@@ -64,9 +65,9 @@ session_count = 16
 abbrev pub no_session : Session
 no_session = record { isolation = ReadCommitted; own = []; savepoints = []; cursors = [] }
 
--- there is a session of this number
-abbrev pub is_session : State → ℕ → Bool
-is_session h s = nat_le 1 s && nat_le s (length h.sessions)
+-- there is a session of this number, which a call may name
+abbrev pub is_session : ℕ → Bool
+is_session s = nat_le 1 s && nat_le s session_count
 
 abbrev pub session_of : State → ℕ → Session
 session_of h s = get_or h.sessions (s - 1) no_session

@@ -35,7 +35,7 @@ use Rattle.rb_model.specs.State.{Session, State, no_session, session_own, with_c
 use Rattle.rb_segment.specs.Calls.{Runs}
 use Rattle.law_blocks.proofs.SegmentRead.{header_is}
 use Rattle.law_blocks.specs.Groups.{IsPutBack, last_record}
-use Rattle.law_blocks.specs.NextStates.{with_own}
+use Rattle.rb_model.specs.NextState.{with_own}
 use Rattle.rb_undoblock.specs.declared.record.UndoRecord.{UndoRecord}
 use Rattle.law_blocks.specs.Standing.{env_of, logged_of, segments_of}
 use Rattle.law_blocks.specs.States.{BlocksStand, Owns}

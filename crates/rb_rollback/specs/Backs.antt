@@ -6,7 +6,7 @@ use Rattle.rb_base.specs.declared.ids.Xid.{Xid}
 use Rattle.rb_base.specs.declared.store.Store.{Ghosts}
 use Rattle.law_aging.specs.Kept.{SegmentsAge}
 use Rattle.law_blocks.specs.Groups.{IsEnded}
-use Rattle.law_blocks.specs.NextStates.{with_own}
+use Rattle.rb_model.specs.NextState.{with_own}
 use Rattle.law_blocks.specs.Standing.{env_of, segments_of}
 use Rattle.law_crash.specs.Crash.{Survives}
 use Rattle.law_crash.specs.Holds.{Holds}

@@ -3,7 +3,7 @@ use Rattle.std.proofs.Common.{◌≡◌, ◌<◌, ◌≤◌, ◌-◌, ◌++◌, 
 use Rattle.std.proofs.lemmas.List.{get_or-set_same, set-get_or, set-set}
 use Rattle.rb_model.specs.Change.{Change}
 use Rattle.rb_model.specs.State.{State, Session, no_session, session_own, with_changes}
-use Rattle.law_blocks.specs.NextStates.{with_own}
+use Rattle.rb_model.specs.NextState.{with_own}
 
 -- the first items of a list, and the next one
 pub last_of : {A : Type 0} (l : List A) (m : ℕ) → m < length l → (c : A) × (take (suc m) l ≡ take m l ++ c ∷ [])

@@ -23,7 +23,7 @@ use Rattle.rb_segment.specs.Segments.{commit_scn}
 use Rattle.law_blocks.specs.Groups.{IsPutBack, last_record}
 use Rattle.law_blocks.proofs.StandingBack.{xid_back}
 use Rattle.law_crash.specs.Made.{BackMade}
-use Rattle.law_blocks.specs.NextStates.{with_own}
+use Rattle.rb_model.specs.NextState.{with_own}
 use Rattle.law_blocks.specs.Says.{xid_by}
 use Rattle.law_blocks.specs.Standing.{env_of, homes_of, logged_of, segments_of}
 use Rattle.law_blocks.specs.States.{BlocksStand, Owns, lives_of, newest_first, past_of, walk_change}

@@ -2,10 +2,13 @@
 use Rattle.std.proofs.Common.{◌≡◌, ◌≢◌, ◌<◌, ◌≤◌, ◌+◌, ◌++◌, ℕ, zero, suc, true, false, List, [], ◌∷◌, map, replicate, set, None, Some, refl, arith}
 use Rattle.std.specs.List.{range_with_len}
 use Rattle.rb_model.specs.Book.{Book, BookSlot, book_at, free_slot, fresh_book, owners, taken}
+use Rattle.rb_model.specs.Calls.{Commit, Done, Refused, Sweep, Swept, early_tests, first_of, granted}
 use Rattle.rb_model.specs.Change.{Change, put}
+use Rattle.rb_model.specs.NextState.{GrowsBy}
 use Rattle.rb_model.specs.State.{Session, State, no_session, session_own}
-use Rattle.law_dead.specs.Clearing.{IsFewest, lacks_room, ready_for, with_room}
-use Rattle.law_dead.specs.Dead.{all_slots, dead_at, dead_changes, dead_owed, home_cleared, segment_cleared, swept, swept_count}
+use Rattle.rb_model.specs.declared.refusal.Refusal.TheVariants.{NoSession}
+use Rattle.rb_model.specs.Clearing.{IsFewest, lacks_room, ready_for, with_room}
+use Rattle.rb_model.specs.Dead.{all_slots, dead_at, dead_changes, dead_owed, home_cleared, segment_cleared, swept, swept_count}
 
 abbrev change : ℕ → Change
 change key = put 1 key []
@@ -26,6 +29,19 @@ two = record {
   safe = 0;
   stopped = false;
 }
+
+no_call_names_the_first : first_of (early_tests two (Commit 17)) Done ≡ Refused NoSession
+no_call_names_the_first = refl
+
+sweep_tells_all : first_of (early_tests two (Sweep 9)) (granted two (Sweep 9)) ≡ Swept 4
+sweep_tells_all = refl
+
+sweep_tells_as_many : granted two (Sweep 3) ≡ Swept 3
+sweep_tells_as_many = refl
+
+-- A sweep of three takes the changes of 17, ends its slot and that of 18, and takes the last change of 33.
+sweep_of_three_is_five_groups : GrowsBy two (Sweep 3) 5
+sweep_of_three_is_five_groups = refl
 
 first_is_dead : dead_at two 0 ≡ Some 17
 first_is_dead = refl

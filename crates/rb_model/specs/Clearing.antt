@@ -5,7 +5,7 @@ use Rattle.std.specs.List.{list_any}
 use Rattle.rb_model.specs.Book.{Book, book_at, is_full, owners}
 use Rattle.rb_model.specs.Calls.{HasNoSlot, Owned, is_owner}
 use Rattle.rb_model.specs.State.{State}
-use Rattle.law_dead.specs.Dead.{home_cleared, segment_cleared}
+use Rattle.rb_model.specs.Dead.{home_cleared, segment_cleared}
 
 -- The segment in which a session that has none begins: the one with the fewest owners, and the first of these.
 pub record IsFewest (books : List Book) (g : ℕ) : Type 0 where

@@ -1,13 +1,12 @@
 -- Dead transactions: those that had a table slot as the file was opened. Each is a session behind the sixteen, which no
 -- call can name, with its live changes and nothing else. They go one by one, whole, or are swept change by change.
-use Rattle.std.specs.Prelude.{◌+◌, ◌-◌, ◌*◌, ◌/◌, ◌%◌, ◌==◌, ℕ, min, nat_lt, Bool, true, cond}
-use Rattle.std.specs.Prelude.{List, [], ◌∷◌, length, take, Option, Some, None}
+use Rattle.std.specs.Prelude.{◌≡◌, ◌≤◌, ◌+◌, ◌-◌, ◌*◌, ◌/◌, ◌%◌, ◌==◌, ℕ, min, nat_lt}
+use Rattle.std.specs.Prelude.{Bool, true, cond, List, [], ◌∷◌, length, take, Option, Some, None}
 use Rattle.std.specs.List.{list_any, range_with_len, sum_by}
-use Rattle.rb_model.specs.Book.{Owner}
-use Rattle.rb_model.specs.NextState.{ended, without_owner}
-use Rattle.rb_model.specs.State.{State, owner_at, session_count, session_own}
+use Rattle.rb_model.specs.Book.{Owner, book_at}
+use Rattle.rb_model.specs.Ended.{ended, with_own, without_owner}
+use Rattle.rb_model.specs.State.{State, owner_at, session_count, session_of, session_own}
 use Rattle.rb_model.specs.Tests.{is_in_home}
-use Rattle.law_blocks.specs.NextStates.{with_own}
 
 -- the number is that of a dead transaction
 abbrev pub is_dead : ℕ → Bool
@@ -90,3 +89,16 @@ dead_owed_at h (Some d) = length (session_own h d) + 1
 
 abbrev pub dead_owed : State → ℕ
 dead_owed h = sum_by (λ t. dead_owed_at h (dead_at h t)) (all_slots h)
+
+-- All but the dead, and the slots that they have, is in one state as in another.
+pub record KeepsRest (h h2 : State) : Type 0 where
+  pub shape : h2.shape ≡ h.shape
+  pub commits : h2.commits ≡ h.commits
+  pub queue : h2.queue ≡ h.queue
+  pub asked : h2.asked ≡ h.asked
+  pub safe : h2.safe ≡ h.safe
+  pub stopped : h2.stopped ≡ h.stopped
+  pub many : length h2.sessions ≡ length h.sessions
+  pub living : (s : ℕ) → 1 ≤ s → s ≤ session_count → session_of h2 s ≡ session_of h s
+  pub marks : (g : ℕ) → ((book_at h2.books g).writes ≡ (book_at h.books g).writes)
+      × ((book_at h2.books g).lost ≡ (book_at h.books g).lost)
