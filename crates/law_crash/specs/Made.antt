@@ -91,6 +91,13 @@ BackOver shape t zero before now = now ≡ before
 BackOver shape t (suc n) before now = (middle : List (List ℕ))
     × IsPutBack shape t (last_record shape before t) before middle × BackOver shape t n middle now
 
+-- so many groups, of which each puts back the newest change of a slot, or ends one
+abbrev pub BackBy : Shape → ℕ → (before now : List (List ℕ)) → Type 0
+BackBy shape zero before now = now ≡ before
+BackBy shape (suc n) before now = (middle : List (List ℕ)) × (t : ℕ)
+    × (IsPutBack shape t (last_record shape before t) before middle ⊎ IsEnded shape t before middle)
+    × BackBy shape n middle now
+
 -- The put back of the last change of session s, which has these left.
 pub record BackMade (h : State) (xids : List Xid) (s : ℕ) (front : List Change) (before now : List (List ℕ)) : Type
     0 where

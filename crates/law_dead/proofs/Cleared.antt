@@ -4,28 +4,17 @@ use Rattle.std.proofs.lemmas.Bool.{cases_eq, cases_lt, cases_Bool, cond-true, co
 use Rattle.std.proofs.lemmas.Bool.Decides.{nat_tests}
 use Rattle.std.proofs.lemmas.List.{length-set}
 use Rattle.std.specs.List.{list_any, range_with_len}
-use Rattle.rb_model.specs.Book.{Owner}
 use Rattle.rb_model.specs.Change.{Change}
 use Rattle.rb_model.specs.State.{Session, State, no_session, owner_at, session_count, session_own}
 use Rattle.rb_model.specs.Tests.{holder, holds, is_change, is_in_home, session_numbers}
 use Rattle.law_blocks.specs.States.{Owns}
 use Rattle.law_dead.proofs.Going.{comm, owner_else, owner_gone, own_else}
+use Rattle.rb_model.proofs.DeadLemmas.{dead_owned}
 use Rattle.rb_model.specs.Dead.{all_gone, all_slots, dead_at, dead_owner, gone, home_cleared, is_dead, without, works_at}
 use Rattle.law_dead.specs.Laws.{OwnsOne}
 
--- the dead of a slot owns it, and its number is above the sixteen
-owned_by : (o : Option Owner) (d : ℕ) → dead_owner o ≡ Some d → (p : Owner) × (o ≡ Some p) × (p.session ≡ d) × (session_count < d)
-owned_by None d is = absurd cc
-owned_by (Some p) d is = elim (cases_Bool (is_dead p.session)) [
-  | inl dead ↦
-      let there : Some p.session ≡ Some d = sym (cond-true (is_dead p.session) (Some p.session) None dead) ∙ is in
-      let same : p.session ≡ d = cc in
-      (p, refl, same, (let more : session_count < p.session = grind (arith, nat_tests, dead) in omega (arith, more, same)))
-  | inr alive ↦ let never : None ≡ Some d = sym (cond-false (is_dead p.session) (Some p.session) None alive) ∙ is in absurd cc
-]
-
 pub dead_owns : (h : State) (t d : ℕ) → dead_at h t ≡ Some d → Owns h d t × (session_count < d)
-dead_owns h t d is = let o = owned_by (owner_at h t) d is in (record { owner = o.0; at = o.1; session = o.2 }, o.3)
+dead_owns h t d is = let o = dead_owned (owner_at h t) d is in (record { owner = o.0; at = o.1; session = o.2 }, o.3)
 
 module _ (table key : ℕ) where
   abbrev goes : State → ℕ → Bool

@@ -17,8 +17,8 @@ use Rattle.rb_lines.specs.Ran.{Did}
 use Rattle.rb_model.specs.Answers.{activity_answer, fetch_answer, get_answer, write_answer}
 use Rattle.rb_model.specs.declared.activity.Activity.{Activity}
 use Rattle.rb_engine.proofs.MakesLemmas.{makes_refused}
-use Rattle.rb_model.specs.Calls.{Absent, Answer, Call, Done, End, Flushed, Given, Idle, Marked, Committed, Numbered, Refused, Shown, MayAnswer, Waits, failed_in, is_disk_fault, is_fault}
-use Rattle.rb_model.specs.Calls.{Write, Commit, CommitLater, Flush, Rollback, SetMode, SetSavepoint, RollbackTo, OpenCursor, Fetch, CloseCursor, Get, Cancel, Marks, Show, Checkpoint}
+use Rattle.rb_model.specs.Calls.{Absent, Answer, Call, Done, End, Flushed, Swept, Given, Idle, Marked, Committed, Numbered, Refused, Shown, MayAnswer, Waits, failed_in, is_disk_fault, is_fault}
+use Rattle.rb_model.specs.Calls.{Write, Commit, CommitLater, Flush, Sweep, Rollback, SetMode, SetSavepoint, RollbackTo, OpenCursor, Fetch, CloseCursor, Get, Cancel, Marks, Show, Checkpoint}
 use Rattle.rb_model.specs.Change.{Asked}
 use Rattle.rb_model.specs.NextState.{After, unqueued}
 use Rattle.rb_model.specs.Out.{Logged, CallOut, goes_on}
@@ -47,6 +47,7 @@ on_no_fault (Waits on) e = refl
 on_no_fault (Committed n) e = refl
 on_no_fault (Numbered n) e = refl
 on_no_fault (Flushed n) e = refl
+on_no_fault (Swept n) e = refl
 on_no_fault (Given key value) e = refl
 on_no_fault End e = refl
 on_no_fault Absent e = refl
@@ -73,6 +74,7 @@ worn_by s h e (CloseCursor who name) scn lost needs = tt
 worn_by s h e (Cancel who) scn lost needs = tt
 worn_by s h e (Marks seg) scn lost needs = tt
 worn_by s h e Flush scn lost needs = tt
+worn_by s h e (Sweep k) scn lost needs = tt
 worn_by s h e Checkpoint scn lost needs = tt
 
 -- the outcome of a write that answers so

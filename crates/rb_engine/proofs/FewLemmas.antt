@@ -4,7 +4,7 @@ use Rattle.std.proofs.Common.{◌*◌, ◌≡◌, ◌≤◌, ◌+◌, ◌^◌, �
 use Rattle.rb_ring.specs.declared.extents.TheConstants.{EXTENTS, EXTENT_RECORDS}
 use Rattle.rb_base.specs.declared.ids.Xid.{Xid}
 use Rattle.rb_model.specs.Calls.{Absent, Answer, Call, Cancel, Checkpoint, CloseCursor, Commit, CommitLater, Done, End, Fetch, Flush}
-use Rattle.rb_model.specs.Calls.{Flushed, Get, Given, HasNoSlot, Idle, Numbered, Show, Shown}
+use Rattle.rb_model.specs.Calls.{Flushed, Sweep, Swept, Get, Given, HasNoSlot, Idle, Numbered, Show, Shown}
 use Rattle.rb_model.specs.Calls.{Marked, Marks, Committed, OpenCursor, Owned, Refused, Rollback, RollbackTo, SetMode, SetSavepoint, Waits, Write}
 use Rattle.rb_model.specs.NextState.{CommitGrows, Ends, Grows, GrowsBy, ReadsBy, RefusedBy}
 use Rattle.rb_model.specs.State.{State, session_own}
@@ -12,6 +12,7 @@ use Rattle.rb_model.specs.declared.refusal.Refusal.{Refusal}
 use Rattle.rb_model.specs.declared.refusal.Refusal.TheVariants as why
 use Rattle.law_blocks.specs.States.{BlocksStand}
 use Rattle.law_sessions.proofs.Few.{session_few}
+use Rattle.rb_steps.proofs.Owed.{dead_few}
 
 module _ (h : State) (xids : List Xid) (blocks : List (List ℕ)) (stand : BlocksStand h xids blocks) where
   own_few : (s : ℕ) → length (session_own h s) ≤ (EXTENTS * EXTENT_RECORDS)
@@ -46,6 +47,7 @@ module _ (h : State) (xids : List Xid) (blocks : List (List ℕ)) (stand : Block
   granted_few (Cancel s) n is = omega (arith, is)
   granted_few (Marks seg) n is = omega (arith, is)
   granted_few Flush n is = omega (arith, is)
+  granted_few (Sweep k) n is = let few = dead_few h xids blocks stand in omega (arith, is, few)
   granted_few Checkpoint n is = omega (arith, is)
 
   read_few : (call : Call) (n : ℕ) → ReadsBy h call n → n ≤ 2 ^ 14
@@ -64,6 +66,7 @@ module _ (h : State) (xids : List Xid) (blocks : List (List ℕ)) (stand : Block
   read_few (Cancel s) n is = omega (arith, is)
   read_few (Marks seg) n is = omega (arith, is)
   read_few Flush n is = omega (arith, is)
+  read_few (Sweep k) n is = omega (arith, is)
   read_few Checkpoint n is = omega (arith, is)
 
   refused_few : (call : Call) (w : Refusal) (n : ℕ) → RefusedBy h call w n → n ≤ 2 ^ 14
@@ -96,6 +99,7 @@ module _ (h : State) (xids : List Xid) (blocks : List (List ℕ)) (stand : Block
   grows_few call (Committed number) n grows = granted_few call n grows
   grows_few call (Numbered number) n grows = granted_few call n grows
   grows_few call (Flushed number) n grows = granted_few call n grows
+  grows_few call (Swept number) n grows = granted_few call n grows
   grows_few call (Waits on) n is = omega (arith, is)
   grows_few call (Given key value) n reads = read_few call n reads
   grows_few call End n reads = read_few call n reads

@@ -7,12 +7,13 @@ use Rattle.rb_base.specs.declared.ids.Xid.{Xid}
 use Rattle.rb_base.specs.declared.sizes.TheConstants.{WORN}
 use Rattle.rb_engine.specs.Cleaning.{IsClean, OnlyCleaned, ReadIn}
 use Rattle.rb_engine.specs.Getting.{KeyRead}
-use Rattle.law_crash.specs.Made.{BackOver}
+use Rattle.law_crash.specs.Made.{BackBy, BackOver}
 use Rattle.rb_model.specs.Answers.{write_answer}
 use Rattle.rb_model.specs.Calls.{Absent, Action, Answer, Call, Commit, CommitLater, Committed, Done, End, Fetch}
 use Rattle.rb_model.specs.Calls.{Flushed, Get, Given, HasNoSlot, Idle, Marked, Numbered, Owned, Refused, Rollback}
-use Rattle.rb_model.specs.Calls.{RollbackTo, Shown, Waits, Write, WritesIn, adds_now, is_empty}
+use Rattle.rb_model.specs.Calls.{RollbackTo, Shown, Sweep, Swept, Waits, Write, WritesIn, adds_now, is_empty}
 use Rattle.rb_model.specs.Change.{Asked}
+use Rattle.rb_model.specs.Dead.{all_slots, dead_owed, swept}
 use Rattle.rb_model.specs.NextState.{kind_by, unqueued}
 use Rattle.rb_model.specs.Rows.{last_scn}
 use Rattle.rb_model.specs.State as machine
@@ -52,7 +53,7 @@ CommitMakes h s before now =
     ⊎ ((is_empty (session_own h s) ≡ true) × EndOver h s 0 before now)
 
 -- What a call makes that did what it was asked for, but for one that reads rows: a write its change, a commit its
--- number in a header, a rollback its changes back. No other call changes a block.
+-- number in a header, a rollback its changes back, a sweep those of the dead. No other call changes a block.
 abbrev pub MadeBy : State → Call → (before now : List (List ℕ)) → Type 0
 MadeBy h (Write s table key action) before now =
     (g : ℕ) × (i : ℕ) × WritesIn h s g i × WritesOne h s g i table key action before now
@@ -63,6 +64,7 @@ MadeBy h (RollbackTo s name) before now = (p : Savepoint) × (savepoint_of h s n
     × (((g : ℕ) × (i : ℕ) × Owned h s g i
     × BackOver h.shape (16 * g + i) (length (session_own h s) - p.kept) before now)
     ⊎ (HasNoSlot h s × (now ≡ before)))
+MadeBy h (Sweep k) before now = BackBy h.shape (dead_owed h - dead_owed (swept k (all_slots h) h)) before now
 MadeBy h call before now = now ≡ before
 
 -- A fetch cleans no block but those that it reads, and all of them where it went well and the log, which has come to
@@ -94,6 +96,7 @@ Makes h call Done lsn before now = MadeBy h call before now
 Makes h call (Committed n) lsn before now = MadeBy h call before now
 Makes h call (Numbered n) lsn before now = MadeBy h call before now
 Makes h call (Flushed n) lsn before now = MadeBy h call before now
+Makes h call (Swept n) lsn before now = MadeBy h call before now
 Makes h call (Waits on) lsn before now = now ≡ before
 Makes h call (Given key value) lsn before now = MadeReading h call (Unit {0}) lsn before now
 Makes h call End lsn before now = MadeReading h call (Unit {0}) lsn before now

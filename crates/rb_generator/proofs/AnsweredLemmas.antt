@@ -16,7 +16,7 @@ use Rattle.rb_generator.specs.Draws.{commands_of, drawn, state_after}
 use Rattle.rb_generator.specs.Ends.{EndsInFault, HasCounted, HasGenerated, StopsBy}
 use Rattle.rb_generator.specs.declared.counts.Counts.{Counts}
 use Rattle.rb_model.proofs.Stops.{after_stops, fine_stays, the_fault}
-use Rattle.rb_model.specs.Calls.{Answer, Done, Waits, Committed, Numbered, Flushed, Given, End, Absent, Marked, Shown, Idle, Refused, is_fault}
+use Rattle.rb_model.specs.Calls.{Answer, Done, Waits, Committed, Numbered, Flushed, Swept, Given, End, Absent, Marked, Shown, Idle, Refused, is_fault}
 use Rattle.rb_model.specs.Lines.{Command, call_of, most_calls}
 use Rattle.rb_model.specs.Out.{Logged, CallOut, goes_on, Outside}
 use Rattle.rb_model.specs.State.{State}
@@ -29,6 +29,7 @@ fault_is (Waits on) e = absurd (false≢true e)
 fault_is (Committed n) e = absurd (false≢true e)
 fault_is (Numbered n) e = absurd (false≢true e)
 fault_is (Flushed n) e = absurd (false≢true e)
+fault_is (Swept n) e = absurd (false≢true e)
 fault_is (Given key value) e = absurd (false≢true e)
 fault_is End e = absurd (false≢true e)
 fault_is Absent e = absurd (false≢true e)

@@ -25,19 +25,19 @@ rest_on h h1 h2 a b = record {
   marks = λ g. ((b.marks g).0 ∙ (a.marks g).0, (b.marks g).1 ∙ (a.marks g).1);
 }
 
--- the number of a dead one is above the sixteen
-above : (o : Option Owner) (d : ℕ) → dead_owner o ≡ Some d → session_count < d
-above None d is = absurd cc
-above (Some p) d is = elim (cases_Bool (is_dead p.session)) [
+-- the dead of a slot owns it, and its number is above the sixteen
+pub dead_owned : (o : Option Owner) (d : ℕ) → dead_owner o ≡ Some d → (p : Owner) × (o ≡ Some p) × (p.session ≡ d) × (session_count < d)
+dead_owned None d is = absurd cc
+dead_owned (Some p) d is = elim (cases_Bool (is_dead p.session)) [
   | inl dead ↦
       let there : Some p.session ≡ Some d = sym (cond-true (is_dead p.session) (Some p.session) None dead) ∙ is in
       let same : p.session ≡ d = cc in
-      let more : session_count < p.session = grind (arith, nat_tests, dead) in omega (arith, more, same)
+      (p, refl, same, (let more : session_count < p.session = grind (arith, nat_tests, dead) in omega (arith, more, same)))
   | inr alive ↦ let never : None ≡ Some d = sym (cond-false (is_dead p.session) (Some p.session) None alive) ∙ is in absurd cc
 ]
 
 pub dead_above : (h : State) (t d : ℕ) → dead_at h t ≡ Some d → session_count < d
-dead_above h t d is = above (owner_at h t) d is
+dead_above h t d is = (dead_owned (owner_at h t) d is).3
 
 -- another session in the place of a dead one
 rest_set : (h : State) (d : ℕ) (session : Session) → session_count < d → KeepsRest h (record h { sessions = set h.sessions (d - 1) session })

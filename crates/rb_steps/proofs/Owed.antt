@@ -5,18 +5,22 @@ use Rattle.std.proofs.lemmas.Bool.{cases_eq, cond-false, cond-true, eq-eqb, ne_e
 use Rattle.std.proofs.lemmas.List.Sums.{sum_by-cons}
 use Rattle.std.specs.List.{range_with_len, sum_by}
 use Rattle.rb_segment.specs.declared.headers.TheConstants.{SEGMENTS}
-use Rattle.rb_base.specs.declared.sizes.TheConstants.{SLOTS}
+use Rattle.rb_base.specs.declared.sizes.TheConstants.{ACTIVE, SLOTS}
 use Rattle.rb_ring.specs.declared.extents.TheConstants.{EXTENTS, EXTENT_RECORDS}
 use Rattle.rb_base.specs.declared.ids.Uba.{Uba}
 use Rattle.rb_base.specs.declared.ids.Xid.{Xid}
 use Rattle.rb_base.specs.declared.shape.Shape.{Shape}
 use Rattle.rb_model.specs.Book.{turn_of}
-use Rattle.rb_model.specs.State.{State}
+use Rattle.rb_model.proofs.DeadLemmas.{dead_owned}
+use Rattle.rb_model.specs.Dead.{dead_at, dead_owed, dead_owed_at}
+use Rattle.rb_model.specs.State.{State, owner_at, session_own}
 use Rattle.rb_segment.specs.Header.{Segment, extent_with, position_of, record_in, slot_in, slot_owed, undo_in}
 use Rattle.rb_segment.specs.Segments.{commit_scn, owed_in}
 use Rattle.rb_segment.proofs.Records.{found, made_of}
 use Rattle.law_blocks.specs.Standing.{env_of, homes_of, logged_of, segments_of}
-use Rattle.law_blocks.specs.States.{BlocksStand, lives_of, past_of}
+use Rattle.law_blocks.proofs.Ids.{active_of}
+use Rattle.law_blocks.proofs.States.{length_newest, lives_owned}
+use Rattle.law_blocks.specs.States.{BlocksStand, Owns, lives_of, past_of}
 use Rattle.law_blocks.specs.Values.{IsSaved, Listed, SlotStands, StandingAs, owed, slot_of, wraps_of, xid_in}
 use Rattle.rb_txntable.specs.declared.slots.TableSlot.{TableSlot}
 use Rattle.rb_undoblock.specs.Undo.{no_undo}
@@ -242,6 +246,28 @@ module _ (h : State) (xids : List Xid) (blocks : List (List ℕ)) (stand : Block
 
   owed_few : owed h.shape Segs ≤ (EXTENTS * EXTENT_RECORDS + SLOTS) * h.shape.segments
   owed_few = sum_sixteens (λ t. slot_owed (slot_of Segs t)) h.shape.segments segment_few
+
+  -- what the dead have is a part of it
+  dead_below : (t : ℕ) → t < SLOTS * h.shape.segments → dead_owed_at h (dead_at h t) ≤ slot_owed (slot_of Segs t)
+  dead_below t t_in = by (dead_at h t) refl
+    where
+      by : (o : Option ℕ) → dead_at h t ≡ o → dead_owed_at h o ≤ slot_owed (slot_of Segs t)
+      by None at = omega arith
+      by (Some d) at =
+          let p = dead_owned (owner_at h t) d at in
+          let owns : Owns h d t = record { owner = p.0; at = p.1; session = p.2 } in
+          let state : (slot_of Segs t).state ≡ ACTIVE = active_of h Segs stand.tell.books t t_in p.0 p.1 in
+          let count = ((stands.slots t t_in).active state).count in
+          let own_is : length (own (lives_of h (env_of h.shape blocks)) t) ≡ length (session_own h d) + 0 = ap (λ (l : List Change). length l) (lives_owned h (env_of h.shape blocks) d t t_in owns) ∙ length_newest h.shape ((env_of h.shape blocks).xid t) 1 (session_own h d) [] in
+          let here : slot_owed (slot_of Segs t) ≡ (slot_of Segs t).live + 1 = cond-true ((slot_of Segs t).state == ACTIVE) ((slot_of Segs t).live + 1) 0 (eq-eqb (slot_of Segs t).state ACTIVE state) in
+          omega (arith, count, own_is, here)
+
+  pub dead_few : dead_owed h ≤ 2 ^ 14
+  dead_few =
+      let below : dead_owed h ≤ owed h.shape Segs = sum_below (λ t. dead_owed_at h (dead_at h t)) (λ t. slot_owed (slot_of Segs t)) 0 (16 * h.shape.segments) (λ t low high. dead_below t (omega (arith, high))) in
+      let all = owed_few in
+      let segments = stand.tell.in_range.few_segments.1 in
+      omega (arith, below, all, segments)
 
 -- how many groups put back what is under way after a write of a transaction that has its slot, or takes one
 abbrev pub owed_after : Shape → List (List ℕ) → Option Xid → ℕ
