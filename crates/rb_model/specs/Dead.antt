@@ -1,7 +1,7 @@
 -- Dead transactions: those that had a table slot as the file was opened. Each is a session behind the sixteen, which no
 -- call can name, with its live changes and nothing else. They go one by one, whole, or are swept change by change.
-use Rattle.std.specs.Prelude.{◌≡◌, ◌≤◌, ◌+◌, ◌-◌, ◌*◌, ◌/◌, ◌%◌, ◌==◌, ℕ, min, nat_lt}
-use Rattle.std.specs.Prelude.{Bool, true, cond, List, [], ◌∷◌, length, take, Option, Some, None}
+use Rattle.std.specs.Prelude.{◌≡◌, ◌≤◌, ◌+◌, ◌-◌, ◌*◌, ◌/◌, ◌%◌, ◌==◌, ℕ, min}
+use Rattle.std.specs.Prelude.{nat_lt, Bool, true, cond, List, [], ◌∷◌, length, take, Option, Some, None}
 use Rattle.std.specs.List.{list_any, range_with_len, sum_by}
 use Rattle.rb_model.specs.Book.{Owner, book_at}
 use Rattle.rb_model.specs.Ended.{ended, with_own, without_owner}

@@ -44,8 +44,8 @@ pub record Session : Type 0 where
 pub record State : Type 0 where
   pub shape : Shape
   pub commits : Commits
-  -- Numbered from 1: the sixteen that calls name, and behind them each transaction that had a table slot as the file was
-  -- opened.
+  -- Numbered from 1: the sixteen that calls name, and behind them each transaction that had a table slot as the file
+  -- was opened.
   pub sessions : List Session
   -- one for each segment, numbered from 0
   pub books : List Book
