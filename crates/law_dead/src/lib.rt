@@ -1,5 +1,5 @@
 //! Dead transactions: how the machine's state loses them, and that it doesn't matter in which order; and which entries
-//! of a home are theirs. Here are definitions and, as laws, what is proved of them.
+//! of a home are theirs. Here are, as laws, what is proved of them, and the definitions of entries.
 #![tactic(auto)]
 
 mod laws;
