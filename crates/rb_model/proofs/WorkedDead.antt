@@ -43,6 +43,9 @@ sweep_tells_as_many = refl
 sweep_of_three_is_five_groups : GrowsBy two (Sweep 3) 5
 sweep_of_three_is_five_groups = refl
 
+each_slot_is_one : all_slots two ≡ range_with_len 0 32
+each_slot_is_one = refl
+
 first_is_dead : dead_at two 0 ≡ Some 17
 first_is_dead = refl
 
