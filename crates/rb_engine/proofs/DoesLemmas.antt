@@ -190,7 +190,7 @@ module _ {S : Type 0} (s : Ghosts S) where
           logs.number refl,
           record {
             xids = goes.xids;
-            holds = holds_session h who goes.xids new.store session there own (holds_logged h goes.xids old.store new.store goes.holds logs);
+            holds = holds_session h who goes.xids new.store session there own (holds_logged s told laws h goes.xids old.store new.store goes.holds logs);
             remembers = remembers_logged h2 goes.xids new.memory.sessions old.store new.store logs (remembers goes.xids goes.holds.blocks goes.remembers);
             copies = copies_same h h2 goes.xids (s.blocks old.store) (s.blocks new.store) old.memory.copies new.memory.copies refl refl (logs.blocks told refl) copies goes.copies;
           },
