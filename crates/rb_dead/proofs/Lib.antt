@@ -1,0 +1,6 @@
+pub mod Gone
+pub mod Leads
+mod Moving
+pub mod Slots
+mod Sweeps
+pub mod Taken
