@@ -1,6 +1,7 @@
+mod Homes
+mod Moving
+mod Sweeps
 pub mod Gone
 pub mod Leads
-mod Moving
 pub mod Slots
-mod Sweeps
 pub mod Taken

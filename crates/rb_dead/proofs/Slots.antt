@@ -1,5 +1,5 @@
 -- Which transaction a table slot is of, read in the header of its segment: the dead one of a slot, and how many changes it has.
-use Rattle.std.proofs.Common.{nat_lt, ◌&&◌, IfNone, IfSome, ◌≡◌, ◌≢◌, inl, inr, ◌<◌, ◌≤◌, ◌+◌, ◌*◌, ◌/◌, ◌%◌, ℕ, Bool, true, false, List, [], length, Option, Some, None, refl, sym, ◌∙◌, ap, subst, arith}
+use Rattle.std.proofs.Common.{nat_lt, ◌&&◌, IfNone, IfSome, ◌≡◌, ◌≢◌, inl, inr, ◌<◌, ◌≤◌, ◌+◌, ◌*◌, ◌/◌, ◌%◌, ℕ, true, false, List, [], length, Option, Some, None, refl, sym, ◌∙◌, ap, subst, arith}
 use Rattle.std.proofs.lemmas.Bool.{and_from, cases_lt, cond-true, cond-false, false≢true}
 use Rattle.std.proofs.lemmas.Bool.Decides.{nat_tests}
 use Rattle.std.proofs.lemmas.List.FromFn.{get_or-map-range_with_len}
@@ -10,7 +10,6 @@ use Rattle.rb_base.specs.declared.shape.Shape.{Shape}
 use Rattle.rb_base.specs.declared.sizes.TheConstants.{ACTIVE, SLOTS}
 use Rattle.rb_cleanout.specs.Cleaned.{look_of}
 use Rattle.rb_dead.specs.Takes.{FoundDead}
-use Rattle.rb_dead.specs.declared.slot.Dead.{Dead}
 use Rattle.rb_model.specs.Book.{Owner, book_at, slot_owner}
 use Rattle.rb_model.specs.State.{State, owner_at, session_count, session_own}
 use Rattle.rb_segment.specs.Books.{IsOwned}
@@ -29,7 +28,6 @@ use Rattle.law_dead.proofs.Cleared.{dead_owns}
 use Rattle.rb_model.specs.Dead.{dead_at, dead_owner, is_dead}
 use Rattle.law_sessions.proofs.Few.{own_few}
 use Rattle.law_sessions.specs.Views.{Remembers}
-use Rattle.law_write.specs.Verdict.{IsOwnId}
 
 slot_is : (block : List ℕ) (i : ℕ) → i < SLOTS → slot_in (header_of block) i ≡ slot_at block i
 unfolding header_of

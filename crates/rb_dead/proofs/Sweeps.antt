@@ -71,6 +71,7 @@ module _ {S : Type 0} (s : Ghosts S) where
       abbrev NextFails : Type 0
       NextFails = s.tells → (h : State) (xids : List Xid) → HasDead s h xids sessions between mid → (kind : Option Call) → Fails s kind h mid new
 
+      -- One slot more, whose dead transaction goes whole.
       pub clears_on : (a n i most taken : ℕ) → Clears a n i between mid → i < n → 2 ^ 32 ≤ most + 1 → Next most (a + i) taken → Clears a n (i + 1) left new
       clears_on a n i most taken first less much next told h xids has =
           let so = first told h xids has in
@@ -82,11 +83,13 @@ module _ {S : Type 0} (s : Ghosts S) where
             so.2 ∙ gone_on most (a + i) (a + i) (a + (i + 1)) (n - i) (n - (i + 1)) m refl (omega arith) (omega (arith, less)) (taken_whole most (a + i) m (dead_at m (a + i)) few),
           )
 
+      -- The call on the next slot fails.
       pub clears_fails : (a n i : ℕ) → Clears a n i between mid → NextFails → s.tells → (h : State) (xids : List Xid) → HasDead s h xids sessions owed old → (kind : Option Call) → Fails s kind h old new
       clears_fails a n i first next told h xids has =
           let so = first told h xids has in
           fails_on s h xids sessions so.0 so.1.rest between old mid new has.going slots so.1 (next told so.0 xids so.1.has)
 
+      -- One slot more, of which a sweep takes what it has left to take.
       pub sweeping_on : (most n t u rest taken : ℕ) → Sweeping most n t rest between mid → t < n → u ≡ t → rest ≤ most → taken ≤ rest → Next rest u taken → Sweeping most n (t + 1) (rest - taken) left new
       sweeping_on most n t u rest taken first less at few part next told h xids has =
           let so = first told h xids has in
@@ -102,12 +105,14 @@ module _ {S : Type 0} (s : Ghosts S) where
             omega (arith, sum, count, few, part),
           )
 
+      -- The call on the next slot fails.
       pub sweeping_fails : (most n t rest : ℕ) → Sweeping most n t rest between mid → NextFails → s.tells → (h : State) (xids : List Xid) → HasDead s h xids sessions owed old → (kind : Option Call) → Fails s kind h old new
       sweeping_fails most n t rest first next told h xids has =
           let so = first told h xids has in
           fails_on s h xids sessions so.0 so.1.rest between old mid new has.going slots so.1 (next told so.0 xids so.1.has)
 
     module _ (laws : Laws s) (going : s.failed old ≡ false) where
+      -- Before the first slot.
       pub clears_none : (a n : ℕ) → Clears a n 0 owed old
       clears_none a n told h xids has = (
         h,
@@ -115,6 +120,7 @@ module _ {S : Type 0} (s : Ghosts S) where
         ap (λ (z : ℕ). all_gone (λ h d. true) (range_with_len z n) h) (let e : a ≡ a + 0 = omega arith in e) ∙ ap (λ (z : ℕ). all_gone (λ h d. true) (range_with_len (a + 0) z) h) (let e : n ≡ n - 0 = omega arith in e),
       )
 
+      -- Before the first slot.
       pub sweeping_none : (most n : ℕ) → n ≡ (s.shape_of old).segments * 16 → Sweeping most n 0 most owed old
       sweeping_none most n is told h xids has =
           let shape = ap (λ (z : Shape). z.segments) has.shape in
@@ -122,6 +128,7 @@ module _ {S : Type 0} (s : Ghosts S) where
           let count = ap (λ (z : ℕ). swept_count most (range_with_len 0 z) h) all in
           (h, leads_none s h xids sessions told laws owed old old has (no_logs s old going), ap (λ (z : ℕ). swept most (range_with_len 0 z) h) all, omega (arith, count))
 
+    -- After the last slot.
     pub clears_done : (a n i left : ℕ) (new : S) → Clears a n i left new → i ≡ n → s.tells → (h : State) (xids : List Xid) → HasDead s h xids sessions owed old → Leads s h (all_gone (λ h d. true) (range_with_len a n) h) xids sessions left old new
     clears_done a n i left new first done told h xids has =
         let so = first told h xids has in
@@ -129,6 +136,7 @@ module _ {S : Type 0} (s : Ghosts S) where
         let last = so.2 ∙ ap (λ (z : ℕ). all_gone (λ h d. true) (range_with_len (a + i) z) so.0) none in
         subst (λ (z : State). Leads s h z xids sessions left old new) (sym last) so.1
 
+    -- After the last slot.
     pub sweeping_done : (most n t rest left : ℕ) (new : S) → Sweeping most n t rest left new → t ≡ n → s.tells → (h : State) (xids : List Xid) → HasDead s h xids sessions owed old → Sweeps s h xids sessions most left old new (Ok (most - rest))
     sweeping_done most n t rest left new first done told h xids has =
         let so = first told h xids has in
@@ -138,6 +146,7 @@ module _ {S : Type 0} (s : Ghosts S) where
         let sum = so.3 in
         (omega (arith, sum, count), subst (λ (z : State). Leads s h z xids sessions left old new) (sym last) so.1)
 
+    -- A sweep that failed.
     pub sweep_fails : (h : State) (xids : List Xid) (most left : ℕ) (new : S) (result : Result ℕ Failed) → is_err result ≡ true → ((kind : Option Call) → Fails s kind h old new) → Sweeps s h xids sessions most left old new result
     sweep_fails h xids most left new (Ok n) is fails = absurd cc
     sweep_fails h xids most left new (Err fault) is fails = fails

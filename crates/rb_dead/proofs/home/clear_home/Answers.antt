@@ -1,6 +1,6 @@
-use Rattle.std.proofs.Common.{◌≡◌, ◌<◌, ◌≤◌, ◌-◌, ◌^◌, not, Bool, ℕ, List, true, false, refl, sym, ◌∙◌, ap, subst, arith}
+use Rattle.std.proofs.Common.{◌-◌, ◌^◌, not, Bool, true, false, sym, subst, arith}
 use Rattle.rb_base.specs.Logs.{Laws, no_logs}
-use Rattle.rb_dead.proofs.Homes.{FoundEntry, cleared_all, cleared_fails, clears_more, found_of, gives_more, gives_none, less_owed, never_more, none_cleared, none_fails, none_left, none_owed_cleared, read_clears, taken_clears}
+use Rattle.rb_dead.proofs.Homes.{cleared_all, cleared_fails, clears_more, found_of, gives_more, gives_none, less_owed, never_more, none_cleared, none_fails, none_left, none_owed_cleared, read_clears, taken_clears}
 use Rattle.rb_dead.proofs.home.clear_home.Given.{Over}
 use Rattle.rb_dead.proofs.home.clear_home.Goals as goal
 use Rattle.rb_dead.specs.Takes.{Gives, LeadsTo}

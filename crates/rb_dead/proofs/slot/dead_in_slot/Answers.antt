@@ -4,7 +4,6 @@ use Rattle.rb_base.specs.declared.shape.Shape.{Shape}
 use Rattle.rb_dead.proofs.Slots.{InHeader, found_if_none, none_if_idle, none_if_owned, slot_read}
 use Rattle.rb_dead.proofs.slot.dead_in_slot.Goals as goal
 use Rattle.rb_dead.proofs.slot.dead_in_slot.Goals.{then-slot-ne-ACTIVE-via-then-slot-ne-ACTIVE, then-slot-ne-ACTIVE-via-else-slot-ne-ACTIVE+then-is_some}
-use Rattle.law_blocks.specs.States.{BlocksStand}
 
 pub returns-then-slot-ne-ACTIVE-clause-found : goal.returns-then-slot-ne-ACTIVE-clause-found
 returns-then-slot-ne-ACTIVE-clause-found g c = λ told h xids shape stand remembers.
