@@ -13,6 +13,8 @@ mod control;
 #[cfg(test)]
 mod cr;
 #[cfg(test)]
+mod dead;
+#[cfg(test)]
 mod filedisk;
 #[cfg(test)]
 mod group;

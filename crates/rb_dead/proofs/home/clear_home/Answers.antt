@@ -3,7 +3,7 @@ use Rattle.rb_base.specs.Logs.{Laws, no_logs}
 use Rattle.rb_dead.proofs.Homes.{cleared_all, cleared_fails, clears_more, found_of, gives_more, gives_none, less_owed, never_more, none_cleared, none_fails, none_left, none_owed_cleared, read_clears, taken_clears}
 use Rattle.rb_dead.proofs.home.clear_home.Given.{Over}
 use Rattle.rb_dead.proofs.home.clear_home.Goals as goal
-use Rattle.rb_dead.specs.Takes.{Gives, LeadsTo}
+use Rattle.rb_dead.specs.Takes.{Gives, Leads, LeadsTo}
 use Rattle.rb_model.specs.Dead.{home_cleared}
 
 laws_of : (g : Over) → Laws g.T.Store
@@ -81,7 +81,7 @@ returns-then-owed-before-clause-cleared g c = λ told h xids table key first las
     let at = c.loop-owed.store in
     let mid = c.first_dead.new.store in
     let new = c.take_dead.new.store in
-    absurd (never_more s c.args.sessions.now c.args.no c.args.owed.now c.loop-owed.owed c.args.store.now at c.loop-owed.invariant c.take_dead.new.owed
+    absurd {A = Leads s h (home_cleared table key h) xids c.args.sessions.now c.take_dead.new.owed c.args.store.now new} (never_more s c.args.sessions.now c.args.no c.args.owed.now c.loop-owed.owed c.args.store.now at c.loop-owed.invariant c.take_dead.new.owed
     (less_owed s c.args.sessions.now c.args.no (laws_of g) c.loop-owed.owed c.take_dead.new.owed c.in_ok-take_dead.field-0 (2 ^ 32 - 1) at mid new c.in-Some.xid c.in_ok-xid.ensures.logs
     (λ told. found_of s c.args.sessions.now c.args.no (s.shape_of at) (s.blocks at) c.in_ok-xid.field-0 c.in-Some.xid c.in-Some.is (c.in_ok-xid.ensures.some told)) (omega arith) c.in_ok-take_dead.ensures.took)
     c.if-owed-before.true told h xids table key first last is has)
