@@ -1,12 +1,15 @@
 -- What holds of dead transactions that go, and of the entries that they have in a home.
-use Rattle.std.specs.Prelude.{◌≡◌, ◌<◌, ◌≤◌, ◌*◌, ℕ, min, true, false, List, length, Some}
+use Rattle.std.specs.Prelude.{◌≡◌, ◌≢◌, ◌<◌, ◌≤◌, ◌*◌, ℕ, min}
+use Rattle.std.specs.Prelude.{true, false, List, length, Some}
 use Rattle.rb_base.specs.declared.ids.Xid.{Xid}
-use Rattle.rb_model.specs.State.{State, session_count}
+use Rattle.rb_model.specs.Calls.{Answer, Call, MayAnswer, Sweep}
+use Rattle.rb_model.specs.NextState.{After}
+use Rattle.rb_model.specs.State.{State, session_count, session_own}
 use Rattle.rb_model.specs.Tests.{holder}
 use Rattle.law_blocks.specs.Standing.{env_of}
 use Rattle.law_blocks.specs.States.{BlocksStand, Owns}
 use Rattle.rb_model.specs.Clearing.{IsFewest}
-use Rattle.rb_model.specs.Dead.{all_slots, dead_at, dead_changes, home_cleared, segment_cleared}
+use Rattle.rb_model.specs.Dead.{all_slots, dead_at, dead_changes, dead_owed, home_cleared, segment_cleared}
 use Rattle.rb_model.specs.Dead.{swept, swept_count, without, works_at}
 use Rattle.law_dead.specs.Entries.{IsLiving, Runs, entry_of_key}
 
@@ -57,6 +60,19 @@ SweptKeepsRows = (h : State) (k : ℕ) → (swept k (all_slots h) h).commits ≡
 -- The segment that a session begins in is the same once its dead are gone.
 abbrev pub FewestStays : Type 0
 FewestStays = (h : State) (g : ℕ) → IsFewest h.books g → IsFewest (segment_cleared g h).books g
+
+-- No call but a sweep takes anything from the dead: each has its slot and its changes still.
+abbrev pub CallsLeaveDead : Type 0
+CallsLeaveDead = (h h2 : State) (logged : ℕ) (call : Call) (r : Answer) → MayAnswer h logged call r
+    → After h call r h2 → ((k : ℕ) → call ≢ Sweep k)
+    → ((t : ℕ) → dead_at h2 t ≡ dead_at h t)
+    × ((d : ℕ) → session_count < d → session_own h2 d ≡ session_own h d)
+
+-- So it takes as many groups as before to put them back.
+abbrev pub CallsOweSame : Type 0
+CallsOweSame = (h h2 : State) (logged : ℕ) (call : Call) (r : Answer)
+    → MayAnswer h logged call r → After h call r h2
+    → ((k : ℕ) → call ≢ Sweep k) → dead_owed h2 ≡ dead_owed h
 
 -- A dead transaction with a live change in a home has an entry there that is no living session's.
 abbrev pub DeadHasEntry : Type 0
