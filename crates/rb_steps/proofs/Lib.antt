@@ -10,7 +10,7 @@ pub mod LeftOwn
 mod Logged
 pub mod May
 mod OneBack
-mod Owed
+pub mod Owed
 mod Refused
 pub mod Somewhere
 mod StepBack
