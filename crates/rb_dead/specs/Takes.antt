@@ -60,15 +60,15 @@ FoundDead h blocks t (Some found) = (who : ℕ) × (dead_at h t ≡ Some who)
     × IsOwnId h (env_of h.shape blocks) who (Some found.xid) × (length (session_own h who) ≡ found.live)
 
 -- Up to so many changes of the dead transaction of a slot were taken, and it went whole where none was left.
-abbrev pub Takes : {S : Type 0} → Ghosts S → State → List Xid → List KeptSession → (most t left : ℕ) → S → S
-    → Result ℕ Failed → Type 0
+abbrev pub Takes : {S : Type 0} → Ghosts S → State → List Xid → List KeptSession → (most t left : ℕ)
+    → S → S → Result ℕ Failed → Type 0
 Takes s h xids sessions most t left old new (Ok n) = (n ≡ swept_from most h (dead_at h t))
     × Leads s h (swept_at most t (dead_at h t) h) xids sessions left old new
 Takes s h xids sessions most t left old new (Err fault) = (kind : Option Call) → Fails s kind h old new
 
 -- A sweep of so many changes over all slots.
-abbrev pub Sweeps : {S : Type 0} → Ghosts S → State → List Xid → List KeptSession → (most left : ℕ) → S → S
-    → Result ℕ Failed → Type 0
+abbrev pub Sweeps : {S : Type 0} → Ghosts S → State → List Xid → List KeptSession → (most left : ℕ)
+    → S → S → Result ℕ Failed → Type 0
 Sweeps s h xids sessions most left old new (Ok n) = (n ≡ swept_count most (all_slots h) h)
     × Leads s h (swept most (all_slots h) h) xids sessions left old new
 Sweeps s h xids sessions most left old new (Err fault) = (kind : Option Call) → Fails s kind h old new

@@ -53,7 +53,8 @@ fn dead_entry<S: Store>(
         IsDeadEntry sessions.now (S.shape_of store.old) (S.blocks store.old) (entry_at (S.blocks store.old) no i)
         × ((entry_at (S.blocks store.old) no i).xid ≡ x))) }
     ensures none { S.tells → IfOk result (λ first. first ≡ None
-        → ¬ IsDeadEntry sessions.now (S.shape_of store.old) (S.blocks store.old) (entry_at (S.blocks store.old) no i)) }
+        → ¬ IsDeadEntry sessions.now (S.shape_of store.old) (S.blocks store.old)
+        (entry_at (S.blocks store.old) no i)) }
 {
     store.load(no)?;
     let found = entry(store.block(), i);
@@ -63,8 +64,8 @@ fn dead_entry<S: Store>(
     Ok(None)
 }
 
-/// The transaction of the first entry of block `no` that is Open, runs and is no session's. `Failed` only where a call of
-/// the store failed.
+/// The transaction of the first entry of block `no` that is Open, of a slot that there is, runs and is no session's.
+/// `Failed` only where a call of the store failed.
 pub fn first_dead<S: Store>(
     sessions: &Sessions,
     store: &mut S,
@@ -79,7 +80,8 @@ pub fn first_dead<S: Store>(
         × IsDeadEntry sessions.now (S.shape_of store.old) (S.blocks store.old) (entry_at (S.blocks store.old) no i)
         × ((entry_at (S.blocks store.old) no i).xid ≡ x))) }
     ensures none { S.tells → IfOk result (λ first. first ≡ None → (i : ℕ) → i < ENTRIES
-        → ¬ IsDeadEntry sessions.now (S.shape_of store.old) (S.blocks store.old) (entry_at (S.blocks store.old) no i)) }
+        → ¬ IsDeadEntry sessions.now (S.shape_of store.old) (S.blocks store.old)
+        (entry_at (S.blocks store.old) no i)) }
 {
     for i in 0..ENTRIES {
         let first = dead_entry(sessions, store, no, i)?;
@@ -104,8 +106,8 @@ pub fn clear_home<T: Store>(
     requires there { no < table_blocks (T.shape_of store.old) }
     requires few { T.lsn store.old + owed.old < 2 ^ 62 }
     ensures gives { Gives T.Store owed.old owed.new store.old store.new (not (is_err result)) }
-    ensures cleared { T.tells → (h : State) (xids : List Xid) (table key : ℕ) → 1 ≤ table → table ≤ h.shape.tables
-        → no ≡ home_block h.shape table key → HasDead T.Store h xids sessions.now owed.old store.old
+    ensures cleared { T.tells → (h : State) (xids : List Xid) (table key : ℕ)
+        → 1 ≤ table → table ≤ h.shape.tables → no ≡ home_block h.shape table key → HasDead T.Store h xids sessions.now owed.old store.old
         → LeadsTo T.Store h (home_cleared table key h) xids sessions.now owed.new store.old store.new
         (not (is_err result)) }
 {

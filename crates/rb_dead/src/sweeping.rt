@@ -25,7 +25,8 @@ pub fn clear_segment<T: Store>(
     requires there { seg < (T.shape_of store.old).segments }
     requires few { T.lsn store.old + owed.old < 2 ^ 62 }
     ensures gives { Gives T.Store owed.old owed.new store.old store.new (not (is_err result)) }
-    ensures cleared { T.tells → (h : State) (xids : List Xid) → HasDead T.Store h xids sessions.now owed.old store.old
+    ensures cleared { T.tells → (h : State) (xids : List Xid)
+        → HasDead T.Store h xids sessions.now owed.old store.old
         → LeadsTo T.Store h (segment_cleared seg h) xids sessions.now owed.new store.old store.new
         (not (is_err result)) }
 {
@@ -50,7 +51,8 @@ pub fn sweep<T: Store>(
     requires few { T.lsn store.old + owed.old < 2 ^ 62 }
     ensures gives { Gives T.Store owed.old owed.new store.old store.new (not (is_err result)) }
     ensures most { IfOk result (λ n. n ≤ most) }
-    ensures swept { T.tells → (h : State) (xids : List Xid) → HasDead T.Store h xids sessions.now owed.old store.old
+    ensures swept { T.tells → (h : State) (xids : List Xid)
+        → HasDead T.Store h xids sessions.now owed.old store.old
         → Sweeps T.Store h xids sessions.now most owed.new store.old store.new result }
 {
     let slots = store.shape().segments * SLOTS as u16;

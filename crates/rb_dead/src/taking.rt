@@ -1,6 +1,6 @@
 //! Changes of a dead transaction taken back, its newest first. What clears a home or a segment, and a sweep, call it.
-ghost use Rattle.std.specs.Prelude.{◌≡◌, ◌<◌, ◌≤◌, ◌+◌, ◌-◌, ◌*◌, ◌^◌, ℕ, List, length, min};
-ghost use Rattle.std.specs.Prelude.{true, false, not, Some, IfOk};
+ghost use Rattle.std.specs.Prelude.{◌≡◌, ◌<◌, ◌≤◌, ◌+◌, ◌-◌, ◌*◌, ◌^◌, ℕ, List};
+ghost use Rattle.std.specs.Prelude.{length, min, true, false, not, Some, IfOk};
 ghost use Rattle.std.specs.Result.{is_err};
 ghost use Rattle.rb_base.specs.Groups.{Patch};
 ghost use Rattle.rb_base.specs.Logs.{Logs};
@@ -32,7 +32,8 @@ fn take<T: Store>(
         → HasDead T.Store h xids sessions owed store.old
         → FoundDead h (T.blocks store.old) (SLOTS * found.xid.seg + found.xid.slot) (Some found)
         → (not (is_err result) ≡ true → T.lsn store.new + left ≡ T.lsn store.old + owed)
-        → Takes T.Store h xids sessions most (SLOTS * found.xid.seg + found.xid.slot) left store.old store.new result }
+        → Takes T.Store h xids sessions most (SLOTS * found.xid.seg + found.xid.slot) left
+        store.old store.new result }
 {
     if most < found.live {
         put_back(store, workspace, found.xid, most)?;
@@ -61,7 +62,8 @@ pub fn take_dead<T: Store>(
     requires few { T.lsn store.old + owed.old < 2 ^ 62 }
     ensures gives { Gives T.Store owed.old owed.new store.old store.new (not (is_err result)) }
     ensures most { IfOk result (λ n. n ≤ most) }
-    ensures took { T.tells → (h : State) (xids : List Xid) → HasDead T.Store h xids sessions.now owed.old store.old
+    ensures took { T.tells → (h : State) (xids : List Xid)
+        → HasDead T.Store h xids sessions.now owed.old store.old
         → Takes T.Store h xids sessions.now most (SLOTS * seg + i) owed.new store.old store.new result }
 {
     // Where the blocks are damaged the dead may have more than is owed.

@@ -1,4 +1,5 @@
-//! Dead transactions of a small file: what no session has is put back by a home, by a segment, or up to so many changes.
+//! Dead transactions of a small file: what no session has is put back by a home, by a segment, or up to so many
+//! changes.
 use crate::writers::{SHAPE, Writers, copy_of};
 use rb_base::{Failed, Store, Workspace, Xid};
 use rb_dead::{clear_home, clear_segment, first_dead, sweep};
