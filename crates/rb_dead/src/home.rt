@@ -107,7 +107,8 @@ pub fn clear_home<T: Store>(
     requires few { T.lsn store.old + owed.old < 2 ^ 62 }
     ensures gives { Gives T.Store owed.old owed.new store.old store.new (not (is_err result)) }
     ensures cleared { T.tells → (h : State) (xids : List Xid) (table key : ℕ)
-        → 1 ≤ table → table ≤ h.shape.tables → no ≡ home_block h.shape table key → HasDead T.Store h xids sessions.now owed.old store.old
+        → 1 ≤ table → table ≤ h.shape.tables → no ≡ home_block h.shape table key
+        → HasDead T.Store h xids sessions.now owed.old store.old
         → LeadsTo T.Store h (home_cleared table key h) xids sessions.now owed.new store.old store.new
         (not (is_err result)) }
 {
