@@ -70,7 +70,7 @@ pub record TellsLooks (shape : Shape) (before now : List (List ℕ)) : Type 0 wh
 pub record WriteMade (h : State) (xids : List Xid) (s table key : ℕ) (action : Action) (x : Xid)
     (before now : List (List ℕ)) : Type 0 where
   pub in_slot : WritesIn h s x.seg x.slot
-  pub granted : first_of (write_tests h (logged_of h.shape before) x.seg x.slot s table key action) Done ≡ Done
+  pub granted : first_of (write_tests h (logged_of h.shape before) x.seg s table key action) Done ≡ Done
   pub stand : BlocksStand (written h s x.seg x.slot (change_in h x.seg table key action)) xids now
   pub last : logged_of h.shape now ≡ logged_of h.shape before + 1
   pub id : IsOwnId (written h s x.seg x.slot (change_in h x.seg table key action)) (env_of h.shape now) s (Some x)

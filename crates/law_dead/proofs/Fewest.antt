@@ -7,7 +7,7 @@ use Rattle.std.specs.List.{count_by, range_with_len}
 use Rattle.rb_model.specs.Book.{Book, BookSlot, book_at, free_slot, fresh_book, left, owners}
 use Rattle.rb_model.specs.State.{State}
 use Rattle.rb_model.specs.Dead.{all_gone, dead_at, gone, segment_cleared, without}
-use Rattle.rb_model.specs.Clearing.{IsFewest}
+use Rattle.rb_model.specs.Calls.{IsFewest}
 
 -- the count with one item that doesn't count
 count_set : (p : BookSlot → Bool) (l : List BookSlot) (i : ℕ) (x : BookSlot) → p x ≡ false → count_by p (set l i x) ≤ count_by p l

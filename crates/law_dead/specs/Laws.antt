@@ -8,7 +8,7 @@ use Rattle.rb_model.specs.State.{State, session_count, session_own}
 use Rattle.rb_model.specs.Tests.{holder}
 use Rattle.law_blocks.specs.Standing.{env_of}
 use Rattle.law_blocks.specs.States.{BlocksStand, Owns}
-use Rattle.rb_model.specs.Clearing.{IsFewest}
+use Rattle.rb_model.specs.Calls.{IsFewest}
 use Rattle.rb_model.specs.Dead.{all_slots, dead_at, dead_changes, dead_owed, home_cleared, segment_cleared}
 use Rattle.rb_model.specs.Dead.{swept, swept_count, without, works_at}
 use Rattle.law_dead.specs.Entries.{IsLiving, Runs, entry_of_key}

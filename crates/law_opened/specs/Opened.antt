@@ -1,14 +1,14 @@
 -- The state that the blocks of a file open to where nothing is put back: each Active table slot is a dead
 -- transaction's. It is a session behind the sixteen, number 17 + t for slot t, with its live changes alone, which no
 -- call can name.
-use Rattle.std.specs.Prelude.{◌+◌, ◌*◌, ◌/◌, ◌==◌, ◌++◌, cond, false, ℕ, zero, suc}
-use Rattle.std.specs.Prelude.{List, [], ◌∷◌, map, replicate, Option, Some, None}
+use Rattle.std.specs.Prelude.{◌+◌, ◌*◌, ◌/◌, ◌==◌, ◌++◌, cond, ℕ, zero, suc}
+use Rattle.std.specs.Prelude.{List, [], ◌∷◌, map, Option, Some, None}
 use Rattle.std.specs.List.{range_with_len}
 use Rattle.rb_base.specs.declared.shape.Shape.{Shape}
 use Rattle.rb_base.specs.declared.sizes.TheConstants.{ACTIVE}
 use Rattle.rb_model.specs.Book.{Book, BookSlot, Owner}
 use Rattle.rb_model.specs.Change as model
-use Rattle.rb_model.specs.State.{Session, State, no_session, session_count}
+use Rattle.rb_model.specs.State.{Session, State, no_session, opened, session_count}
 use Rattle.rb_model.specs.Rows.{TableRow}
 use Rattle.rb_segment.specs.Books.{book_of, ring_count}
 use Rattle.rb_segment.specs.Header.{Header, has_bit, ord_in, slot_in}
@@ -64,13 +64,4 @@ owned_books shape blocks =
 
 -- The state that a file of that number, these rows, these books and these live changes opens to.
 abbrev pub opened_with : Shape → ℕ → List TableRow → List Book → List (List Change) → State
-opened_with shape number rows books lives = record {
-  shape = shape;
-  commits = record { base = number; rows = rows; list = [] };
-  sessions = replicate session_count no_session ++ map (dead_session shape) lives;
-  books = books;
-  queue = [];
-  asked = replicate session_count None;
-  safe = number;
-  stopped = false;
-}
+opened_with shape number rows books lives = opened shape number rows books (map (dead_session shape) lives)

@@ -132,7 +132,7 @@ module _ {S : Type 0} (s : Ghosts S) (told : s.tells) (laws : Laws s) (h : State
   goes = st.goes going
 
   first_late : (n by : ℕ) → isolation_of h who ≡ isolation.Serializable n → late h.commits n table key ≡ Some by
-      → first_of (write_tests h (s.lsn old.store) place.0 place.1 who table key action) Done ≡ Refused (refusals.CantSerialize n by)
+      → first_of (write_tests h (s.lsn old.store) place.0 who table key action) Done ≡ Refused (refusals.CantSerialize n by)
   first_late n by serial is =
       first_serial h (s.lsn old.store) place.0 place.1 who table key action others
       ∙ ap (λ (l : List (Bool × Answer)). first_of (l ++ row_tests h (s.lsn old.store) place.0 place.1 who table key action) Done) (ap (λ (i : Isolation). serial_tests h.commits i table key) serial ∙ ap (refused_by n) is)

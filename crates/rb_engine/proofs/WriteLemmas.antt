@@ -95,9 +95,9 @@ module _ {S : Type 0} (s : Ghosts S) (told : s.tells) (laws : Laws s) (h : State
       subst (λ (n : ℕ). Retains h n after) one (retains h goes.xids (s.blocks old.store) goes.holds.blocks who x.seg x.slot made.in_slot id.there id.few after (change_in h x.seg table key action) refl)
 
   -- by that log number
-  pub answered : (g i : ℕ) → (a : WritesIn h who g i) → (r : Answer) → first_of (write_tests h (s.lsn old.store) g i who table key action) Done ≡ r
+  pub answered : (g i : ℕ) → (a : WritesIn h who g i) → (r : Answer) → first_of (write_tests h (s.lsn old.store) g who table key action) Done ≡ r
       → MayAnswer h (s.lsn old.store) (Write who table key action) r
-  answered g i within r is = MayAnswer.later (write_tests h (s.lsn old.store) g i who table key action) early (g, i, within, refl) (sym is)
+  answered g i within r is = MayAnswer.later (write_tests h (s.lsn old.store) g who table key action) early (g, i, within, refl) (sym is)
 
   module _ (new : EngineView S) (same : SameStore s old.store new.store) where
     pub step_done : (x : Xid) → GivesOne s old.store new.store true (λ now. WriteMade h goes.xids who table key action x (s.blocks old.store) now)
@@ -109,7 +109,7 @@ module _ {S : Type 0} (s : Ghosts S) (told : s.tells) (laws : Laws s) (h : State
         let blocks : s.blocks new.store ≡ _ = one.logs.blocks told refl in
         let made : WriteMade h goes.xids who table key action x (s.blocks old.store) (s.blocks new.store) = subst (λ b. WriteMade h goes.xids who table key action x (s.blocks old.store) b) (sym blocks) (one.made (omega (arith, single))) in
         let all : (fault : _) → _ = λ fault. holds_written s told laws h goes.xids who old.store new.store table key action x st.shape goes.holds fault one in
-        let granted : first_of (write_tests h (s.lsn old.store) x.seg x.slot who table key action) Done ≡ Done = subst (λ (n : ℕ). first_of (write_tests h n x.seg x.slot who table key action) Done ≡ Done) (sym goes.holds.logged) made.granted in
+        let granted : first_of (write_tests h (s.lsn old.store) x.seg who table key action) Done ≡ Done = subst (λ (n : ℕ). first_of (write_tests h n x.seg who table key action) Done ≡ Done) (sym goes.holds.logged) made.granted in
         let knows = written_remembered h goes.xids (s.blocks old.store) (s.blocks new.store) who x.seg x.slot (change_in h x.seg table key action) x goes.holds.blocks there.0 high made.in_slot made.stand made.id made.ids old.memory.sessions there.1 goes.remembers in
         does_by s h after (Write who table key action) Done old new 1 st
         (answered x.seg x.slot made.in_slot Done granted) (x.seg, x.slot, made.in_slot, refl) (λ _. kept_undo x made)
@@ -133,7 +133,7 @@ module _ {S : Type 0} (s : Ghosts S) (told : s.tells) (laws : Laws s) (h : State
         (λ keeps. write_fault s told laws h goes.xids who old.store new.store table key action x st.shape goes.holds one keeps)
 
     -- or the write was refused
-    pub step_refused : (why : Refusal) → is_disk_fault why ≡ false → (x : Xid) → WritesIn h who x.seg x.slot → first_of (write_tests h (s.lsn old.store) x.seg x.slot who table key action) Done ≡ Refused why
+    pub step_refused : (why : Refusal) → is_disk_fault why ≡ false → (x : Xid) → WritesIn h who x.seg x.slot → first_of (write_tests h (s.lsn old.store) x.seg who table key action) Done ≡ Refused why
         → new.memory ≡ old.memory → Logs s old.store new.store [] true → Does s h (Write who table key action) (Refused why) old new
     step_refused why other x within is memory logs =
         does_loaded s told laws h (Write who table key action) (Refused why) old new st (answered x.seg x.slot within (Refused why) is) (rw other refl) (refused_none h (Write who table key action) why) (λ s t k a is done. cc) memory (λ _. logs) same
@@ -142,7 +142,7 @@ module _ {S : Type 0} (s : Ghosts S) (told : s.tells) (laws : Laws s) (h : State
       queue_is : mid.waits ≡ h.queue
       queue_is = ap (λ (k : Kept). k.waits) before ∙ (st.knows.queue going).waits
 
-      first_waited : (b : Bool) → closes mid.waits who u ≡ b → (r : Answer) → (if b then Refused (Deadlock u) else Waits u) ≡ r → first_of (write_tests h (s.lsn old.store) place.0 place.1 who table key action) Done ≡ r
+      first_waited : (b : Bool) → closes mid.waits who u ≡ b → (r : Answer) → (if b then Refused (Deadlock u) else Waits u) ≡ r → first_of (write_tests h (s.lsn old.store) place.0 who table key action) Done ≡ r
       first_waited b ring r is =
           ap (λ (l : List (Bool × Answer)). first_of l Done) (split_tests h (s.lsn old.store) place.0 place.1 who table key action)
           ∙ of_holder (holder h table key) held.0 (serial_tests h.commits (isolation_of h who) table key ++ row_tests h (s.lsn old.store) place.0 place.1 who table key action)

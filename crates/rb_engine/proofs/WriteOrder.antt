@@ -148,7 +148,7 @@ module _ {S : Type 0} (s : Ghosts S) (told : s.tells) (laws : Laws s) (h : State
         -- or refused, or a call of the store failed
         pub unmade_did : (fault : AttemptFault) (why : Refusal) → why ≡ refusal_of fault → StopsIf (is_disk_fault why) mid.memory new.memory
             → (has_failed {T = Xid} (Err fault) ≡ true → AsLogged (λ xids. (x : Xid) × Gives false x xids))
-            → (has_failed {T = Xid} (Err fault) ≡ false → AsStep (λ xids. length h.sessions ≤ SESSIONS → (x : Xid) × WritesIn h who x.seg x.slot × (first_of (write_tests h (s.lsn mid.store) x.seg x.slot who table key action) Done ≡ Refused (refusal_of fault))))
+            → (has_failed {T = Xid} (Err fault) ≡ false → AsStep (λ xids. length h.sessions ≤ SESSIONS → (x : Xid) × WritesIn h who x.seg x.slot × (first_of (write_tests h (s.lsn mid.store) x.seg who table key action) Done ≡ Refused (refusal_of fault))))
             → (has_failed {T = Xid} (Err fault) ≡ false → Logs s mid.store new.store [] true) → Does s h (Write who table key action) (Refused why) View new
         unmade_did fault why is stops failed refused unchanged =
             let call = Write who table key action in
@@ -160,7 +160,7 @@ module _ {S : Type 0} (s : Ghosts S) (told : s.tells) (laws : Laws s) (h : State
             subst (λ (w : Refusal). Does s h call (Refused w) mid new) (sym (is ∙ the_failure fault fails))
             (step_failed s told laws h mid Mid on who table key action there early new stays one.0 one.1 (subst (λ (b : Bool). StopsIf b mid.memory new.memory) (ap is_disk_fault is ∙ fails) stops)))
             (λ (other : is_disk_fault (refusal_of fault) ≡ false).
-            let why_not = at_step (λ xids. length h.sessions ≤ SESSIONS → (x : Xid) × WritesIn h who x.seg x.slot × (first_of (write_tests h (s.lsn mid.store) x.seg x.slot who table key action) Done ≡ Refused (refusal_of fault))) (refused (sym kind ∙ other)) (let sixteen = st.knows.sixteen in omega (arith, sixteen)) in
+            let why_not = at_step (λ xids. length h.sessions ≤ SESSIONS → (x : Xid) × WritesIn h who x.seg x.slot × (first_of (write_tests h (s.lsn mid.store) x.seg who table key action) Done ≡ Refused (refusal_of fault))) (refused (sym kind ∙ other)) (let sixteen = st.knows.sixteen in omega (arith, sixteen)) in
             subst (λ (w : Refusal). Does s h call (Refused w) mid new) (sym is)
             (step_refused s told laws h mid Mid on who table key action there early new stays (refusal_of fault) other why_not.0 why_not.1 why_not.2
             (subst (λ (b : Bool). StopsIf b mid.memory new.memory) (ap is_disk_fault is ∙ other) stops) (unchanged (sym kind ∙ other))))

@@ -4,10 +4,11 @@ use Rattle.std.specs.Bool.{MatchBool}
 use Rattle.std.specs.Prelude.{◌&&◌, if◌then◌else◌, nat_le, not, slice_get}
 use Rattle.std.proofs.lemmas.Bool.{cond_both}
 use Rattle.rb_model.specs.Calls.{Call, Write, Commit, CommitLater, Flush, Sweep, Rollback, SetMode, SetSavepoint, RollbackTo, OpenCursor, Fetch, CloseCursor, Get, Cancel, Marks, Show, Checkpoint}
-use Rattle.rb_model.proofs.DeadLemmas.{swept_rest}
+use Rattle.rb_model.proofs.DeadLemmas.{clears_rest, swept_rest}
 use Rattle.rb_model.specs.Dead.{all_slots}
 use Rattle.rb_model.specs.Calls.{Answer, Done, Waits, Committed, Numbered, Flushed, Swept, Given, End, Absent, Marked, Shown, Idle, Refused, MayAnswer, LaterTests, early, later, fault, old}
-use Rattle.rb_model.specs.Calls.{adds_now, activity_of, got, is_idle, rows_now, rows_seen, early_tests, first_of, given, granted, is_disk_fault, is_fault, is_empty, next_row, refused_by, serial_tests, waited, write_tests}
+use Rattle.rb_model.specs.Calls.{adds_now, activity_of, got, is_idle, rows_now, rows_seen, early_tests, first_of, given, granted, is_disk_fault, is_fault, is_empty, next_row, refused_by, key_tests, serial_tests, waited, write_tests}
+use Rattle.rb_model.specs.Clearing.{ClearsTo}
 use Rattle.rb_model.specs.NextState.{After, AfterGrant, AfterWait, EndsAs, committed, unqueued}
 use Rattle.rb_model.specs.Out.{CallsOut, LineSaid, Logged, Out, Outside, ResumesOut, bad, command, goes_on, skipped, too_long}
 use Rattle.rb_model.specs.Lines.{Command, call_of}
@@ -130,10 +131,15 @@ match_both false m f g = g m
 same_kept : (h h2 : State) → h2 ≡ h → Kept h h2
 same_kept h h2 e = rests h h2 h e refl refl
 
+-- what is put back before a call acknowledges nothing, and is no commit
+ready_kept : (h ready : State) (call : Call) (r : Answer) → ClearsTo h call r ready → Kept h ready
+ready_kept h ready call r clears = let rest = clears_rest h ready call r clears in rests h ready ready refl rest.safe rest.commits
+
 calls_kept : (m m2 : Logged) (outside : Outside) (c : Command) (k count : ℕ) (out : List ℕ) → CallsOut m outside c k count out m2 → Kept m.state m2.state
 calls_kept m m2 outside c k zero out (none, e) = same_kept m.state m2.state (ap (λ (x : Logged). x.state) e)
 calls_kept m m2 outside c k (suc count) out (r, rest, mid, call, said, next) =
-    kept_on m.state mid.state m2.state (after_kept m.state mid.state (call_of c k) r call.state)
+    kept_on m.state mid.state m2.state
+    (kept_on m.state call.ready.state mid.state (ready_kept m.state call.ready.state (call_of c k) r call.readied.state) (after_kept call.ready.state mid.state (call_of c k) r call.made.state))
     (match_both (goes_on r) next
     (λ (more : CallsOut mid outside c (suc k) count rest m2). calls_kept mid m2 outside c (suc k) count rest more)
     (λ (none, e). same_kept mid.state m2.state (ap (λ (x : Logged). x.state) e)))
@@ -142,9 +148,11 @@ resumes_kept : (m m2 : Logged) (outside : Outside) (count : ℕ) (out : List ℕ
 resumes_kept m m2 outside zero out (settled, none, e) = same_kept m.state m2.state (ap (λ (x : Logged). x.state) e)
 resumes_kept m m2 outside (suc count) out (s, asked, r, rest, mid, going, ready, was, one, said, next) =
     kept_on m.state mid.state m2.state
+    (kept_on m.state one.ready.state mid.state
+    (kept_on m.state (unqueued m.state s) one.ready.state (rests m.state (unqueued m.state s) _ refl refl refl) (ready_kept (unqueued m.state s) one.ready.state (Write s asked.table asked.key asked.action) r one.readied.state))
     (match_both (is_fault r) one.state
-    (λ e. rests m.state mid.state _ e refl refl)
-    (λ after. kept_on m.state (unqueued m.state s) mid.state (rests m.state (unqueued m.state s) _ refl refl refl) (after_kept (unqueued m.state s) mid.state (Write s asked.table asked.key asked.action) r after)))
+    (λ e. rests one.ready.state mid.state _ e refl refl)
+    (λ after. after_kept one.ready.state mid.state (Write s asked.table asked.key asked.action) r after)))
     (resumes_kept mid m2 outside count rest next)
 
 said_kept : (m m2 : Logged) (outside : Outside) (line out : List ℕ) → LineSaid m outside line out m2 → Kept m.state m2.state
@@ -222,12 +230,16 @@ silent_serial commits isolation.ReadCommitted table key = record { each = tt }
 silent_serial commits (isolation.ReadOnly snapshot) table key = record { each = tt }
 silent_serial commits (isolation.Serializable snapshot) table key = silent_by snapshot _
 
-silent_six : (a b c d e f : Bool) (u v w x y z : Refusal) → Silent ((a, Refused u) ∷ (b, Refused v) ∷ (c, Refused w) ∷ (d, Refused x) ∷ (e, Refused y) ∷ (f, Refused z) ∷ [])
-silent_six a b c d e f u v w x y z = record { each = (refl, (refl, (refl, (refl, (refl, (refl, tt)))))) }
+silent_four : (a b c d : Bool) (u v w x : Refusal) → Silent ((a, Refused u) ∷ (b, Refused v) ∷ (c, Refused w) ∷ (d, Refused x) ∷ [])
+silent_four a b c d u v w x = record { each = (refl, (refl, (refl, (refl, tt)))) }
+
+silent_two : (a b : Bool) (u v : Refusal) → Silent ((a, Refused u) ∷ (b, Refused v) ∷ [])
+silent_two a b u v = record { each = (refl, (refl, tt)) }
 
 quiet_later : (h : State) (logged : ℕ) (c : Call) (tests : List (Bool × Answer)) → LaterTests h logged c tests → Quiet tests
-quiet_later h logged (Write s table key action) tests (g, i, w, is) =
-    let all : Silent (write_tests h logged g i s table key action) = silent_append _ _ (silent_append _ _ (silent_waited h.queue s (holder h table key)) (silent_serial h.commits (isolation_of h s) table key)) (silent_six (adds_now h s table key action && has_row table key (rows_now h s)) (not (adds_now h s table key action) && not (has_row table key (rows_now h s))) (adds_now h s table key action && full_block h table key) (full_slots h s table key) (is_full (book_at h.books g)) (nat_le WORN logged) Duplicate NotFound BlockFull SlotsFull (RollbackFull g (made_since (book_at h.books g))) WornOut) in
+quiet_later h logged (Write s table key action) tests (g, w, is) =
+    let of_key : Silent (key_tests h s table key action) = silent_append _ _ (silent_append _ _ (silent_waited h.queue s (holder h table key)) (silent_serial h.commits (isolation_of h s) table key)) (silent_four (adds_now h s table key action && has_row table key (rows_now h s)) (not (adds_now h s table key action) && not (has_row table key (rows_now h s))) (adds_now h s table key action && full_block h table key) (full_slots h s table key) Duplicate NotFound BlockFull SlotsFull) in
+    let all : Silent (write_tests h logged g s table key action) = silent_append _ _ of_key (silent_two (is_full (book_at h.books g)) (nat_le WORN logged) (RollbackFull g (made_since (book_at h.books g))) WornOut) in
     subst Quiet (sym is) all.each
 quiet_later h logged (Commit s) tests is = subst Quiet (sym is) tt
 quiet_later h logged (CommitLater s) tests is = subst Quiet (sym is) tt

@@ -15,7 +15,7 @@ use Rattle.rb_model.specs.declared.refusal.Refusal.TheVariants.{Duplicate, NotFo
 
 -- a fresh file of one table with two homes
 abbrev start : State
-start = opened (record { tables = 1; blocks = 2; segments = 1 }) 0 [] (fresh_book ∷ [])
+start = opened (record { tables = 1; blocks = 2; segments = 1 }) 0 [] (fresh_book ∷ []) []
 
 -- calls of session 1, whose slot is the first
 abbrev write : State → ℕ → Action → State
@@ -32,7 +32,7 @@ fetch_c h = with_cursors h 1 (with_taken (99 ∷ []) (cursors_of h 1))
 
 -- what a write of a key answers
 abbrev answer_to : State → ℕ → Action → Answer
-answer_to h key action = first_of (write_tests h 2 0 0 1 1 key action) Done
+answer_to h key action = first_of (write_tests h 2 0 1 1 key action) Done
 
 abbrev a : List ℕ
 a = 97 ∷ []
@@ -100,7 +100,7 @@ deleted_again = refl
 
 -- A home of sixteen rows, one of which the session has deleted: its key is held, so another has no room before the commit.
 abbrev sixteen : State
-sixteen = opened (record { tables = 1; blocks = 1; segments = 1 }) 1 (over 1 [] (map (λ key. put 1 key a) (range_with_len 0 16))) (fresh_book ∷ [])
+sixteen = opened (record { tables = 1; blocks = 1; segments = 1 }) 1 (over 1 [] (map (λ key. put 1 key a) (range_with_len 0 16))) (fresh_book ∷ []) []
 
 abbrev one_deleted : State
 one_deleted = write sixteen 0 Delete

@@ -25,7 +25,7 @@ a = 97 ∷ []
 
 -- what a write of a key answers, behind so many groups
 abbrev answer : State → ℕ → ℕ → Action → Answer
-answer h logged key action = first_of (write_tests h logged 0 0 1 1 key action) Done
+answer h logged key action = first_of (write_tests h logged 0 1 1 key action) Done
 
 abbrev write : State → ℕ → Action → State
 write h key action = written h 1 0 0 (change_in h 0 1 key action)

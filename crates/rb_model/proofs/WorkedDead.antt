@@ -1,13 +1,14 @@
 -- Who is dead, what a sweep takes, and which of the dead go before a write, computed on worked rows.
-use Rattle.std.proofs.Common.{◌≡◌, ◌≢◌, ◌<◌, ◌≤◌, ◌+◌, ◌++◌, ℕ, zero, suc, true, false, List, [], ◌∷◌, map, replicate, set, None, Some, refl, arith}
+use Rattle.std.proofs.Common.{◌≡◌, ◌≢◌, ◌<◌, ◌≤◌, ◌+◌, ◌++◌, ℕ, zero, suc, true, false, List, [], ◌∷◌, map, replicate, set, None, Some, refl, arith, inl}
 use Rattle.std.specs.List.{range_with_len}
 use Rattle.rb_model.specs.Book.{Book, BookSlot, book_at, free_slot, fresh_book, owners, taken}
-use Rattle.rb_model.specs.Calls.{Commit, Done, Refused, Sweep, Swept, early_tests, first_of, granted}
+use Rattle.rb_model.specs.Calls.{Commit, Delete, Done, Refused, Sweep, Swept, Write, early_tests, first_of, granted}
 use Rattle.rb_model.specs.Change.{Change, put}
 use Rattle.rb_model.specs.NextState.{GrowsBy}
 use Rattle.rb_model.specs.State.{Session, State, no_session, session_own}
-use Rattle.rb_model.specs.declared.refusal.Refusal.TheVariants.{NoSession}
-use Rattle.rb_model.specs.Clearing.{IsFewest, lacks_room, ready_for, with_room}
+use Rattle.rb_model.specs.declared.refusal.Refusal.TheVariants.{Duplicate, NoSession, NoTable, RollbackFull}
+use Rattle.rb_model.specs.Calls.{IsFewest}
+use Rattle.rb_model.specs.Clearing.{ClearsTo, HasRoom, Readies, lacks_room, ready_for, with_room}
 use Rattle.rb_model.specs.Dead.{all_slots, dead_at, dead_changes, dead_owed, home_cleared, segment_cleared, swept, swept_count}
 
 abbrev change : ℕ → Change
@@ -164,3 +165,16 @@ first (suc k) lt is = absurd (omega (arith, lt))
 
 begins_in_the_second : IsFewest two.books 1
 begins_in_the_second = record { within = omega arith; least = least; first = first }
+
+-- Which state a call with an answer is made in.
+full_segment_is_told_behind_its_dead : Readies 2 filled (Refused (RollbackFull 1 0)) (with_room 2 1 filled) ≡ HasRoom filled 2 (with_room 2 1 filled)
+full_segment_is_told_behind_its_dead = refl
+
+early_tests_of_the_key_leave_the_segment : Readies 2 filled (Refused Duplicate) filled ≡ (filled ≡ filled)
+early_tests_of_the_key_leave_the_segment = refl
+
+other_calls_leave_all : ClearsTo filled (Commit 2) Done filled ≡ (filled ≡ filled)
+other_calls_leave_all = refl
+
+write_to_no_table_leaves_all : ClearsTo two (Write 1 2 3 Delete) (Refused NoTable) two
+write_to_no_table_leaves_all = inl (refl, refl)

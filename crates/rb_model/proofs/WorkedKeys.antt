@@ -35,7 +35,7 @@ start = record {
 
 -- what a write of session s in slot i answers, and makes
 abbrev answer : ℕ → ℕ → State → ℕ → Action → Answer
-answer s i h key action = first_of (write_tests h 2 0 i s 1 key action) Done
+answer s i h key action = first_of (write_tests h 2 0 s 1 key action) Done
 
 abbrev write : ℕ → ℕ → State → ℕ → Action → State
 write s i h key action = written h s 0 i (change_in h 0 1 key action)

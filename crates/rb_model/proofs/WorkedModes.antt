@@ -55,7 +55,7 @@ other_table = refl
 
 -- A file of two tables, a block each, whose last commit has number 3.
 abbrev start : State
-start = opened (record { tables = 2; blocks = 1; segments = 1 }) 3 (record { table = 1; key = 1; value = a } ∷ []) (fresh_book ∷ [])
+start = opened (record { tables = 2; blocks = 1; segments = 1 }) 3 (record { table = 1; key = 1; value = a } ∷ []) (fresh_book ∷ []) []
 
 abbrev set_to : ℕ → Mode → State → State
 set_to s m h = with_isolation h s (isolation_at (last_scn h.commits) m)
@@ -70,7 +70,7 @@ abbrev rows_of : ℕ → State → List ℕ
 rows_of s h = map (λ row. row.key) (cursor_rows h (opened_cursor h s a 1 0 9))
 
 abbrev answer : ℕ → State → ℕ → Action → Answer
-answer s h key action = first_of (write_tests h 1 0 0 s 1 key action) Done
+answer s h key action = first_of (write_tests h 1 0 s 1 key action) Done
 
 -- *changed-back*: session 2 is serializable at 3; 4 and 5 change the row and change it back.
 abbrev back_again : State

@@ -65,12 +65,12 @@ a = 97 ∷ []
 
 abbrev holding : State
 holding =
-    let h = opened (record { tables = 1; blocks = 1; segments = 1 }) 0 [] (fresh_book ∷ []) in
+    let h = opened (record { tables = 1; blocks = 1; segments = 1 }) 0 [] (fresh_book ∷ []) [] in
     let h1 = written h 1 0 0 (change_in h 0 1 1 (Insert a)) in
     let h2 = written h1 2 0 1 (change_in h1 0 1 2 (Insert a)) in written h2 3 0 2 (change_in h2 0 1 3 (Insert a))
 
 abbrev answer : State → ℕ → ℕ → Action → Answer
-answer h s key action = first_of (write_tests h 3 0 (s - 1) s 1 key action) Done
+answer h s key action = first_of (write_tests h 3 0 s 1 key action) Done
 
 -- the write of a key by a session that has to wait for another one
 abbrev waits : State → ℕ → ℕ → ℕ → State

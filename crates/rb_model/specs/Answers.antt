@@ -1,6 +1,7 @@
 -- What the arguments and results of the engine's calls are as the machine's actions and answers.
 use Rattle.std.specs.Prelude.{◌≡◌, ℕ, Option, None, Some, Result, Ok, Err}
-use Rattle.rb_model.specs.Calls.{Action, Answer, Waits, Committed, Numbered, Flushed, Given, Marked, Shown, Refused}
+use Rattle.rb_model.specs.Calls.{Action, Answer, Waits, Committed, Numbered, Flushed, Swept, Given, Marked, Shown}
+use Rattle.rb_model.specs.Calls.{Refused}
 use Rattle.rb_model.specs.Calls as calls
 use Rattle.rb_model.specs.declared.activity.Activity.{Activity}
 use Rattle.rb_model.specs.declared.outcome.Outcome as code
@@ -47,6 +48,11 @@ commit_answer told (Err why) = Refused why
 abbrev pub flush_answer : Result ℕ Refusal → Answer
 flush_answer (Ok number) = Flushed number
 flush_answer (Err why) = Refused why
+
+-- of a sweep
+abbrev pub sweep_answer : Result ℕ Refusal → Answer
+sweep_answer (Ok changes) = Swept changes
+sweep_answer (Err why) = Refused why
 
 abbrev pub plain_answer : Result (Unit {0}) Refusal → Answer
 plain_answer (Ok done) = calls.Done
@@ -97,6 +103,7 @@ answer_of (answers.Waits on) row = Waits on
 answer_of (answers.Committed number) row = Committed number
 answer_of (answers.Numbered number) row = Numbered number
 answer_of (answers.Flushed number) row = Flushed number
+answer_of (answers.Swept changes) row = Swept changes
 answer_of answers.Row row = Given row.key row.value.items
 answer_of answers.End row = calls.End
 answer_of answers.Absent row = calls.Absent

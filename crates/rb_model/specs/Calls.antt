@@ -1,13 +1,13 @@
 -- The calls of the machine: their tests in their order, their answers, and what its refusals are called.
 use Rattle.std.specs.Prelude.{◌≡◌, ◌≢◌, ◌⊎◌, ℕ, ◌+◌, ◌*◌}
-use Rattle.std.specs.Prelude.{◌<◌, Bool, true, false, not, ◌&&◌}
+use Rattle.std.specs.Prelude.{◌<◌, ◌≤◌, Bool, true, false, not, ◌&&◌}
 use Rattle.std.specs.Prelude.{nat_lt, nat_le, if◌then◌else◌, is_some, is_none, List, [], ◌∷◌, ◌++◌}
 use Rattle.std.specs.Prelude.{length, codes}
 use Rattle.std.specs.Prelude.{filter, slice_get, Option, None, Some}
 use Rattle.std.specs.Fmt.{decimal}
 use Rattle.std.specs.Str.{bytes_eq}
 use Rattle.rb_base.specs.declared.sizes.TheConstants.{VALUE_BYTES, WORN}
-use Rattle.rb_model.specs.Book.{Owner, IsBegun, book_at, is_full}
+use Rattle.rb_model.specs.Book.{Book, Owner, IsBegun, book_at, is_full, owners}
 pub use Rattle.rb_model.specs.Change.{Action, Insert, Update, Upsert, Delete, Lock}
 use Rattle.rb_model.specs.Dead.{all_slots, swept_count}
 use Rattle.rb_model.specs.Full.{full_block}
@@ -177,6 +177,16 @@ HasNoSlot h s = (t : ℕ) (o : Owner) → owner_at h t ≡ Some o → o.session 
 abbrev pub WritesIn : State → ℕ → ℕ → ℕ → Type 0
 WritesIn h s g i = Owned h s g i ⊎ (HasNoSlot h s × IsBegun h.books g i)
 
+-- The segment in which a session that has none begins: the one with the fewest owners, and the first of these.
+pub record IsFewest (books : List Book) (g : ℕ) : Type 0 where
+  pub within : g < length books
+  pub least : (k : ℕ) → k < length books → owners (book_at books g) ≤ owners (book_at books k)
+  pub first : (k : ℕ) → k < g → owners (book_at books k) ≢ owners (book_at books g)
+
+-- the segment in which it writes: that of its slot, or else where it would begin
+abbrev pub WritesAt : State → ℕ → ℕ → Type 0
+WritesAt h s g = ((i : ℕ) × Owned h s g i) ⊎ (HasNoSlot h s × IsFewest h.books g)
+
 abbrev pub is_owner : ℕ → Option Owner → Bool
 is_owner s None = false
 is_owner s (Some o) = nat_le o.session s && nat_le s o.session
@@ -242,17 +252,24 @@ early_tests h Checkpoint = (h.stopped, Refused Stopped) ∷ []
 abbrev pub adds_now : State → (s table key : ℕ) → Action → Bool
 adds_now h s table key action = adds action (has_row table key (rows_now h s))
 
--- the tests of a write of a session that writes in slot i of segment g, behind that log number
-abbrev pub write_tests : State → (logged g i s table key : ℕ) → Action → List (Bool × Answer)
-write_tests h logged g i s table key action =
+-- the tests of a write that ask for its key and the key's home
+abbrev pub key_tests : State → (s table key : ℕ) → Action → List (Bool × Answer)
+key_tests h s table key action =
     waited h.queue s (holder h table key)
     ++ serial_tests h.commits (isolation_of h s) table key
     ++ (adds_now h s table key action && has_row table key (rows_now h s), Refused Duplicate)
     ∷ (not (adds_now h s table key action) && not (has_row table key (rows_now h s)), Refused NotFound)
     ∷ (adds_now h s table key action && full_block h table key, Refused BlockFull)
-    ∷ (full_slots h s table key, Refused SlotsFull)
-    ∷ (is_full (book_at h.books g), Refused (RollbackFull g (made_since (book_at h.books g))))
+    ∷ (full_slots h s table key, Refused SlotsFull) ∷ []
+
+-- and those of one in segment g, behind that log number, that ask for room
+abbrev pub room_tests : State → (logged g : ℕ) → List (Bool × Answer)
+room_tests h logged g =
+    (is_full (book_at h.books g), Refused (RollbackFull g (made_since (book_at h.books g))))
     ∷ (nat_le WORN logged, Refused WornOut) ∷ []
+
+abbrev pub write_tests : State → (logged g s table key : ℕ) → Action → List (Bool × Answer)
+write_tests h logged g s table key action = key_tests h s table key action ++ room_tests h logged g
 
 -- the savepoints of other names
 abbrev pub without_savepoint : List ℕ → List Savepoint → List Savepoint
@@ -354,7 +371,7 @@ none_applies (test ∷ tests) = not test.0 && none_applies tests
 -- the later tests of a call; those of a write go by where it writes
 abbrev pub LaterTests : State → ℕ → Call → List (Bool × Answer) → Type 0
 LaterTests h logged (Write s table key action) tests =
-    (g : ℕ) × (i : ℕ) × WritesIn h s g i × (tests ≡ write_tests h logged g i s table key action)
+    (g : ℕ) × WritesAt h s g × (tests ≡ write_tests h logged g s table key action)
 LaterTests h logged call tests = tests ≡ name_tests h call
 
 -- The call reads at that snapshot: a fetch at its cursor's, a read of one key at that of a query which begins now, and

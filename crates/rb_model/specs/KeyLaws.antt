@@ -24,7 +24,7 @@ either h s table key value = if has_row table key (rows_now h s) then Update val
 -- It has the same tests, and makes the same change.
 abbrev pub UpsertIsEither : Type 0
 UpsertIsEither = (h : State) (logged g i s table key : ℕ) (value : List ℕ)
-    → (write_tests h logged g i s table key (Upsert value)
-    ≡ write_tests h logged g i s table key (either h s table key value))
+    → (write_tests h logged g s table key (Upsert value)
+    ≡ write_tests h logged g s table key (either h s table key value))
     × (kind_by (Upsert value) ≡ kind_by (either h s table key value))
     × (is_too_long (Upsert value) ≡ is_too_long (either h s table key value))

@@ -11,7 +11,7 @@ use Rattle.rb_model.specs.Calls.{Action, Insert, Update, Upsert, Delete, Lock, A
 use Rattle.rb_model.specs.Calls.{Numbered, Flushed, Given, End, Absent, Marked, Shown, Swept, Idle, Refused}
 use Rattle.rb_model.specs.Calls.{number_text, refusal_text}
 use Rattle.rb_model.specs.Calls.{Call, Write, Commit, CommitLater, Rollback, SetMode, SetSavepoint, RollbackTo}
-use Rattle.rb_model.specs.Calls.{OpenCursor, Fetch, CloseCursor, Get, Cancel, Marks, Show, Flush, Checkpoint}
+use Rattle.rb_model.specs.Calls.{OpenCursor, Fetch, CloseCursor, Get, Cancel, Marks, Show, Flush, Sweep, Checkpoint}
 use Rattle.rb_model.specs.State.{session_count}
 use Rattle.rb_model.specs.declared.activity.Activity.{Activity}
 use Rattle.rb_model.specs.declared.activity.Wait.{Wait}
@@ -57,6 +57,7 @@ pub data Command : Type 0 where
   MarksLine : Command
   SessionsLine : Command
   FlushLine : Command
+  SweepLine : (changes : ℕ) → Command
   CheckpointLine : Command
 
 -- what a command calls as its k-th call, from 0 on
@@ -76,6 +77,7 @@ call_of (CancelLine s) k = Cancel s
 call_of MarksLine k = Marks k
 call_of SessionsLine k = Show (suc k)
 call_of FlushLine k = Flush
+call_of (SweepLine changes) k = Sweep changes
 call_of CheckpointLine k = Checkpoint
 
 -- and how often at most, over a file of that shape
@@ -102,6 +104,7 @@ caller (CancelLine s) = Some s
 caller MarksLine = None
 caller SessionsLine = None
 caller FlushLine = None
+caller (SweepLine changes) = None
 caller CheckpointLine = None
 
 -- the first word of a command's line
@@ -123,6 +126,7 @@ pub data Word : Type 0 where
   MarksWord : Word
   SessionsWord : Word
   FlushWord : Word
+  SweepWord : Word
   CheckpointWord : Word
 
 abbrev pub word_text : Word → List ℕ
@@ -143,6 +147,7 @@ word_text CancelWord = codes "cancel"
 word_text MarksWord = codes "marks"
 word_text SessionsWord = codes "sessions"
 word_text FlushWord = codes "flush"
+word_text SweepWord = codes "sweep"
 word_text CheckpointWord = codes "checkpoint"
 
 abbrev pub word_of : Command → Word
@@ -165,9 +170,10 @@ word_of (CancelLine s) = CancelWord
 word_of MarksLine = MarksWord
 word_of SessionsLine = SessionsWord
 word_of FlushLine = FlushWord
+word_of (SweepLine changes) = SweepWord
 word_of CheckpointLine = CheckpointWord
 
--- A field after the word: the number of a session or a table, a key, how many rows, the name of a savepoint or cursor,
+-- A field after the word: the number of a session or a table, a key, how many rows or changes, the name of a savepoint or cursor,
 -- the value of a row, a mode, or the word `later`.
 pub data Field : Type 0 where
   Id : (n : ℕ) → Field
@@ -198,6 +204,7 @@ fields_of (CancelLine s) = Id s ∷ []
 fields_of MarksLine = []
 fields_of SessionsLine = []
 fields_of FlushLine = []
+fields_of (SweepLine changes) = Count changes ∷ []
 fields_of CheckpointLine = []
 
 abbrev pub mode_text : Mode → List ℕ

@@ -1,11 +1,13 @@
 -- What is written for a script, line by line.
-use Rattle.std.specs.Prelude.{◌≡◌, ◌⊎◌, ℕ, zero, suc, ◌+◌, ◌^◌, ◌<◌, ◌≤◌}
+use Rattle.std.specs.Prelude.{◌≡◌, ◌⊎◌, ℕ, zero, suc, ◌+◌, ◌-◌, ◌^◌, ◌<◌, ◌≤◌}
 use Rattle.std.specs.Prelude.{Bool, true, false}
 use Rattle.std.specs.Prelude.{MatchBool, List, [], ◌∷◌, ◌++◌, length, Option, None, Some}
 use Rattle.rb_model.specs.Change.{Asked}
 use Rattle.rb_model.specs.State.{State, asked_of}
 use Rattle.rb_model.specs.Calls.{Call, Write, Answer, Given, Marked, Shown, Idle, Refused, MayAnswer, failed_in}
 use Rattle.rb_model.specs.Calls.{is_fault}
+use Rattle.rb_model.specs.Clearing.{ClearsTo}
+use Rattle.rb_model.specs.Dead.{dead_owed}
 use Rattle.rb_model.specs.NextState.{After, Grows, unqueued}
 use Rattle.rb_model.specs.Queue.{first_ready}
 use Rattle.rb_model.specs.Lines.{Command, Spells, SpellsNone, call_of, most_calls, caller}
@@ -20,22 +22,36 @@ pub record Logged : Type 0 where
   -- the blocks from which the state is read; of those of a stopped state nothing is said
   pub blocks : List (List ℕ)
 
--- What answers hang on besides the machine's state: two relations.
+-- What answers hang on besides the machine's state: three relations.
 pub record Outside : Type 1 where
   -- what a call in a state reads at a snapshot is worn in these blocks, by a number above it of which something was
   -- given up
   pub worn : State → List (List ℕ) → Call → (snapshot lost : ℕ) → Type 0
+  -- so many groups, of which each puts back a change of a dead transaction or ends one, make of the machine's blocks
+  -- those that follow
+  pub back : Logged → (groups : ℕ) → Logged → Type 0
   -- what a call in a state with that answer makes of the machine's blocks
   pub makes : Logged → Call → Answer → Logged → Type 0
 
 abbrev pub outside_by : (State → List (List ℕ) → Call → (snapshot lost : ℕ) → Type 0)
-    → (Logged → Call → Answer → Logged → Type 0) → Outside
-outside_by worn makes = record { worn = worn; makes = makes }
+    → (Logged → ℕ → Logged → Type 0) → (Logged → Call → Answer → Logged → Type 0) → Outside
+outside_by worn back makes = record { worn = worn; back = back; makes = makes }
 
--- One call with that answer, which is too old only where what it reads is worn in the machine's blocks. Unless the
--- disk has failed, the log number goes up by the groups of the call, 2^14 at most, and the call makes the blocks that
--- follow.
-pub record CallOut (m : Logged) (outside : Outside) (call : Call) (answer : Answer) (m2 : Logged) : Type 0 where
+-- how many groups put back the dead that are in the one state and not in the other
+abbrev pub cleared_by : State → State → ℕ
+cleared_by h ready = dead_owed h - dead_owed ready
+
+-- The dead that stand in the way of a call with that answer are put back before it.
+pub record Readied (m : Logged) (outside : Outside) (call : Call) (answer : Answer) (ready : Logged) : Type 0 where
+  pub state : ClearsTo m.state call answer ready.state
+  pub lsn : ready.lsn ≡ m.lsn + cleared_by m.state ready.state
+  pub fault : ready.fault ≡ m.fault
+  pub back : outside.back m (cleared_by m.state ready.state) ready
+
+-- One call with that answer in whose way no dead stand, which is too old only where what it reads is worn in the
+-- machine's blocks. Unless the disk has failed, the log number goes up by the groups of the call, and the call makes
+-- the blocks that follow.
+pub record CallMade (m : Logged) (outside : Outside) (call : Call) (answer : Answer) (m2 : Logged) : Type 0 where
   pub reply : MayAnswer m.state m.lsn call answer
   pub worn : (snapshot lost : ℕ) → answer ≡ Refused (TooOld snapshot lost)
       → outside.worn m.state m.blocks call snapshot lost
@@ -43,9 +59,15 @@ pub record CallOut (m : Logged) (outside : Outside) (call : Call) (answer : Answ
   pub fault : m2.fault ≡ failed_in call answer m.fault
   pub groups : ℕ
   pub grows : m2.state.stopped ≡ false → Grows m.state call answer groups
-  pub few : m2.state.stopped ≡ false → groups ≤ 2 ^ 14
   pub lsn : m2.state.stopped ≡ false → m2.lsn ≡ m.lsn + groups
   pub makes : m2.state.stopped ≡ false → outside.makes m call answer m2
+
+-- One call with that answer, behind the dead that stood in its way, by 2^14 groups at most.
+pub record CallOut (m : Logged) (outside : Outside) (call : Call) (answer : Answer) (m2 : Logged) : Type 0 where
+  pub ready : Logged
+  pub readied : Readied m outside call answer ready
+  pub made : CallMade ready outside call answer m2
+  pub few : m2.state.stopped ≡ false → m2.lsn ≤ m.lsn + 2 ^ 14
 
 -- after this answer a command makes its next call
 abbrev pub goes_on : Answer → Bool
@@ -67,23 +89,29 @@ CallsOut m outside c k (suc count) out m2 =
 abbrev pub CommandOut : Logged → Outside → Command → List ℕ → Logged → Type 0
 CommandOut m outside c out m2 = CallsOut m outside c 0 (most_calls m.state.shape c) out m2
 
--- The write of session s is tried once more, as that of one that has never waited. At a fault of the disk the session
--- keeps its place in the queue.
+-- session s has left the queue
+abbrev pub left_queue : Logged → ℕ → Logged
+left_queue m s = record m { state = unqueued m.state s }
+
+-- The write of session s is tried once more, as that of one that has never waited, behind the dead that stood in its
+-- way. At a fault of the disk the session keeps its place in the queue.
 pub record Resumed (m : Logged) (outside : Outside) (s : ℕ) (asked : Asked) (answer : Answer) (m2 : Logged) : Type
     0 where
-  pub reply : MayAnswer (unqueued m.state s) m.lsn (Write s asked.table asked.key asked.action) answer
+  pub ready : Logged
+  pub readied : Readied (left_queue m s) outside (Write s asked.table asked.key asked.action) answer ready
+  pub reply : MayAnswer ready.state ready.lsn (Write s asked.table asked.key asked.action) answer
   pub worn : (snapshot lost : ℕ) → answer ≡ Refused (TooOld snapshot lost)
-      → outside.worn m.state m.blocks (Write s asked.table asked.key asked.action) snapshot lost
-  pub state : MatchBool (is_fault answer) (m2.state ≡ record m.state { stopped = true })
-      (After (unqueued m.state s) (Write s asked.table asked.key asked.action) answer m2.state)
+      → outside.worn ready.state ready.blocks (Write s asked.table asked.key asked.action) snapshot lost
+  pub state : MatchBool (is_fault answer) (m2.state ≡ record ready.state { queue = m.state.queue; stopped = true })
+      (After ready.state (Write s asked.table asked.key asked.action) answer m2.state)
   pub fault : m2.fault ≡ failed_in (Write s asked.table asked.key asked.action) answer m.fault
   pub groups : ℕ
   pub grows : m2.state.stopped ≡ false
-      → Grows (unqueued m.state s) (Write s asked.table asked.key asked.action) answer groups
-  pub few : m2.state.stopped ≡ false → groups ≤ 2 ^ 14
-  pub lsn : m2.state.stopped ≡ false → m2.lsn ≡ m.lsn + groups
-  pub makes : m2.state.stopped ≡ false → outside.makes (record m { state = unqueued m.state s })
-      (Write s asked.table asked.key asked.action) answer m2
+      → Grows ready.state (Write s asked.table asked.key asked.action) answer groups
+  pub few : m2.state.stopped ≡ false → m2.lsn ≤ m.lsn + 2 ^ 14
+  pub lsn : m2.state.stopped ≡ false → m2.lsn ≡ ready.lsn + groups
+  pub makes : m2.state.stopped ≡ false
+      → outside.makes ready (Write s asked.table asked.key asked.action) answer m2
 
 -- the disk has failed, or no session is ready
 abbrev pub IsSettled : Logged → Type 0

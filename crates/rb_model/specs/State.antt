@@ -1,6 +1,6 @@
 -- The state that the sessions share, as the abstract machine sees it: commits, sessions, the books of the segments that
 -- keep what was before their changes, and the queue of those that wait for one another.
-use Rattle.std.specs.Prelude.{ℕ, ◌-◌, ◌/◌, ◌%◌, Bool, false, ◌&&◌, nat_le, List, [], length}
+use Rattle.std.specs.Prelude.{ℕ, ◌-◌, ◌/◌, ◌%◌, ◌++◌, Bool, false, ◌&&◌, nat_le, List, [], length}
 use Rattle.std.specs.Prelude.{replicate, get_or, find, Option, None}
 use Rattle.std.specs.Str.{bytes_eq}
 use Rattle.rb_base.specs.declared.shape.Shape.{Shape}
@@ -120,13 +120,13 @@ cursor_rows h cursor =
 abbrev pub all_safe : State → State
 all_safe h = record h { safe = last_scn h.commits }
 
--- The state that a file of that commit number, these rows and these books opens to: they are the base, and nothing is
--- under way.
-abbrev pub opened : Shape → ℕ → List TableRow → List Book → State
-opened shape number rows books = record {
+-- The state that a file of that commit number, these rows, these books and these dead transactions opens to: the rows
+-- are the base, and nothing of the sixteen sessions is under way.
+abbrev pub opened : Shape → ℕ → List TableRow → List Book → List Session → State
+opened shape number rows books dead = record {
   shape = shape;
   commits = record { base = number; rows = rows; list = [] };
-  sessions = replicate session_count no_session;
+  sessions = replicate session_count no_session ++ dead;
   books = books;
   queue = [];
   asked = replicate session_count None;

@@ -38,7 +38,7 @@ pub fn safe_laws()
     ensures later { LaterIsNotSafe }
     ensures call { KeepsSafe }
     ensures lines { LinesKeepSafe (outside_by (λ h blocks call snapshot lost. Unit {0})
-        (λ m call answer m2. Unit {0})) }
+        (λ m groups m2. Unit {0}) (λ m call answer m2. Unit {0})) }
 {}
 
 /// A read of one key is a fetch by a cursor over that key alone, and an upsert the insert or the update that its row

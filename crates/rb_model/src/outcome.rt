@@ -15,6 +15,8 @@ pub enum Outcome {
     Numbered { number: u64 },
     /// All commits are in the file, up to that of this number.
     Flushed { number: u64 },
+    /// So many changes of dead transactions were put back.
+    Swept { changes: u32 },
     /// A fetch gave the next row, or a read of one key its row.
     Row,
     /// A fetch gave none: all rows were given before.

@@ -56,7 +56,7 @@ module _ {S : Type 0} (store : Ghosts S) (told : store.tells) (old new : S) (h :
 
   -- the machine's answer where the transaction writes
   abbrev pub Answered : ℕ → ℕ → ℕ → Answer
-  Answered logged g i = first_of (write_tests h logged g i s ask.table ask.key (action_by ask.op)) Done
+  Answered logged g i = first_of (write_tests h logged g s ask.table ask.key (action_by ask.op)) Done
 
   abbrev pub IsRefused : AttemptFault → Type 0
   IsRefused fault = (x : Xid) × WritesIn h s x.seg x.slot

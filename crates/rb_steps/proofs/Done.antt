@@ -108,7 +108,7 @@ module _ (h : State) (xids : List Xid) (before now : List (List ℕ)) (s : ℕ) 
           (subst (λ (i : ℕ). IsHeaderReady (Segs (At / SLOTS)).header i is.recorded.ready) slot_is
           (subst (λ (z : Header). IsHeaderReady z (At % SLOTS) is.recorded.ready) (sym (header_is h.shape before (At / SLOTS))) is.recorded.is_ready))
 
-  pub answered : first_of (write_tests h (logged_of h.shape before) x.seg x.slot s ask.table ask.key (action_by ask.op)) Done ≡ Done
+  pub answered : first_of (write_tests h (logged_of h.shape before) x.seg s ask.table ask.key (action_by ask.op)) Done ≡ Done
   answered = not_refused h xids before s (logged_of h.shape before) ask about first last mine x ready writer (record { takes = takes; entry = entry_there }) place_there young
 
   -- the record is the next one of the segment

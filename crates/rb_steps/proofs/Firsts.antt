@@ -82,12 +82,12 @@ row_tests h logged g i s table key action =
     ∷ log_tests logged
 
 pub split_tests : (h : State) (logged g i s table key : ℕ) (action : Action)
-    → write_tests h logged g i s table key action ≡ waited h.queue s (holder h table key) ++ (serial_tests h.commits (isolation_of h s) table key ++ row_tests h logged g i s table key action)
+    → write_tests h logged g s table key action ≡ waited h.queue s (holder h table key) ++ (serial_tests h.commits (isolation_of h s) table key ++ row_tests h logged g i s table key action)
 split_tests h logged g i s table key action = append_assoc (waited h.queue s (holder h table key)) (serial_tests h.commits (isolation_of h s) table key) (row_tests h logged g i s table key action)
 
 -- where no other session holds the key, only a late commit comes before those
 pub first_serial : (h : State) (logged g i s table key : ℕ) (action : Action) → ((u : ℕ) → holder h table key ≡ Some u → u ≡ s)
-    → first_of (write_tests h logged g i s table key action) Done ≡ first_of (serial_tests h.commits (isolation_of h s) table key ++ row_tests h logged g i s table key action) Done
+    → first_of (write_tests h logged g s table key action) Done ≡ first_of (serial_tests h.commits (isolation_of h s) table key ++ row_tests h logged g i s table key action) Done
 first_serial h logged g i s table key action own =
     ap (λ (l : List (Bool × Answer)). first_of l Done) (split_tests h logged g i s table key action)
     ∙ nobody_waits h.queue s (holder h table key) (serial_tests h.commits (isolation_of h s) table key ++ row_tests h logged g i s table key action) own
@@ -98,7 +98,7 @@ module _ (h : State) (s table key g i : ℕ) (op : Option Op) where
   Found = tested (adds_now h s table key (action_by op)) (has_row table key (rows_now h s)) (full_block h table key) (full_slots h s table key) (is_full (book_at h.books g))
 
   pub first_found : (logged : ℕ) → ((u : ℕ) → holder h table key ≡ Some u → u ≡ s) → serial_tests h.commits (isolation_of h s) table key ≡ []
-      → first_of (write_tests h logged g i s table key (action_by op)) Done
+      → first_of (write_tests h logged g s table key (action_by op)) Done
       ≡ answer_of Found g (made_since (book_at h.books g)) (first_of (log_tests logged) Done)
   first_found logged own timely =
       first_serial h logged g i s table key (action_by op) own

@@ -40,7 +40,7 @@ module _ (h : State) (xids : List Xid) (blocks : List (List ℕ)) (s logged : �
   Log = first_of (log_tests logged) Done
 
   abbrev First : Answer
-  First = first_of (write_tests h logged x.seg x.slot s ask.table ask.key (action_by ask.op)) Done
+  First = first_of (write_tests h logged x.seg s ask.table ask.key (action_by ask.op)) Done
 
   abbrev Since : ℕ
   Since = made_since (book_at h.books x.seg)

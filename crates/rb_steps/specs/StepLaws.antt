@@ -38,7 +38,7 @@ RefusedAsMachine = (h : State) (xids : List Xid) (blocks : List (List ℕ)) (s l
     → MayWrite h s ask.table ask.key → IsWriterOf h.shape blocks ask.own x ready
     → Refuses fault (home_for h.shape blocks ask) (adds_for h.shape blocks ask) ask.key x ready logged
     → WritesIn h s x.seg x.slot
-    × (first_of (write_tests h logged x.seg x.slot s ask.table ask.key (action_by ask.op)) Done
+    × (first_of (write_tests h logged x.seg s ask.table ask.key (action_by ask.op)) Done
     ≡ Refused (refusal_of fault))
 
 -- A write that is done is one that no test of the machine refuses, and the blocks stand for the state after it.
@@ -51,7 +51,7 @@ DoneAsMachine = (h : State) (xids : List Xid) (before now : List (List ℕ)) (s 
     → IsWritten h.shape (16 * x.seg + x.slot) (adds_for h.shape before ask) (kind_of ask.op) address u before now
     → logged_of h.shape before < WORN
     → WritesIn h s x.seg x.slot
-    × (first_of (write_tests h (logged_of h.shape before) x.seg x.slot s ask.table ask.key (action_by ask.op))
+    × (first_of (write_tests h (logged_of h.shape before) x.seg s ask.table ask.key (action_by ask.op))
     Done ≡ Done)
     × BlocksStand (written h s x.seg x.slot (change_in h x.seg ask.table ask.key (action_by ask.op))) xids now
 

@@ -50,7 +50,7 @@ pub fn write_step<S: Store>(
         → IsAbout h xids s ask.now.own (S.blocks store.old)
         → S.shape_of store.old ≡ h.shape → s ≤ length h.sessions → MayWrite h s ask.now.table ask.now.key
         → length h.sessions ≤ 16 → IfErr result (λ fault. (x : Xid) × WritesIn h s x.seg x.slot
-        × (first_of (write_tests h (S.lsn store.old) x.seg x.slot s ask.now.table ask.now.key
+        × (first_of (write_tests h (S.lsn store.old) x.seg s ask.now.table ask.now.key
         (action_by ask.now.op)) Done ≡ Refused (refusal_of fault))) }
     ensures unchanged { has_failed result ≡ false → OnErr result (Logs S.Store store.old store.new [] true) }
     ensures numbers { OnOk result (S.lsn store.old < WORN) }
