@@ -168,7 +168,6 @@ module _ {S : Type 0} (s : Ghosts S) where
       shape = shape ∙ serves.shape;
       holds = clean.holds;
       reader = reader_same h xids (s.blocks old) (s.blocks new) m (env_same h.shape (s.blocks old) (s.blocks new) clean.only.segments) clean.holds.blocks serves.reader;
-      few = serves.few;
       going = serves.going;
     }
 

@@ -19,13 +19,15 @@ use Rattle.law_crash.proofs.CommitHeld.{holds_flushed}
 use Rattle.law_crash.proofs.Crashes.{extends_same, grow_same, some_later}
 use Rattle.law_crash.proofs.Steps.{keeps_on, none_each, read_has}
 use Rattle.rb_model.specs.Book.{book_at}
-use Rattle.rb_model.specs.Calls.{Answer, Call, Fetch, Get, Marked, Refused, MayAnswer, early_tests, failed_in, is_disk_fault, is_fault, none_applies}
+use Rattle.rb_model.specs.Calls.{Answer, Call, Fetch, Get, Marked, Refused, Sweep, MayAnswer, early_tests, failed_in, is_disk_fault, is_fault, none_applies}
 use Rattle.rb_model.specs.NextState.{After, Grows, with_cursors}
+use Rattle.rb_model.specs.Dead.{dead_owed}
 use Rattle.rb_model.specs.Rows.{last_scn}
 use Rattle.rb_model.specs.State.{Cursor, Session, State, all_safe, session_of, session_own}
 use Rattle.rb_model.specs.declared.refusal.Refusal.{Refusal}
 use Rattle.rb_model.specs.declared.refusal.Refusal.TheVariants.{DiskFault, TooOld}
-use Rattle.rb_model.proofs.Stops.{after_shape, after_stops, fine_stays, other_refusal}
+use Rattle.law_dead.proofs.Leaving.{calls_owe}
+use Rattle.rb_model.proofs.Stops.{after_shape, after_stops, fine_stays, other_refusal, went_on}
 use Rattle.rb_ring.specs.Ring.{lost_number, record_count}
 use Rattle.rb_segment.specs.Header.{Header, header_of}
 use Rattle.rb_sessions.specs.Kept.{KeptSession}
@@ -49,7 +51,7 @@ after_sessions h h2 c r after = ⊎_elim
 -- what memory knows of a state, it knows of each one with as many sessions, the same number and the same stop
 pub knows_on : (h h2 : State) (kept now : Kept) → Knows h kept → length h2.sessions ≡ length h.sessions → h2.stopped ≡ h.stopped → last_scn h2.commits ≡ last_scn h.commits → now.stopped ≡ kept.stopped → now.scn ≡ kept.scn → (h.stopped ≡ false → KnowsQueue h2 now) → Knows h2 now
 knows_on h h2 kept now knows sessions stopped number same scn queue = record {
-  sixteen = sessions ∙ knows.sixteen;
+  sixteen = let many = knows.sixteen in omega (arith, many, sessions);
   stopped = same ∙ (knows.stopped ∙ sym stopped);
   scn = scn ∙ (knows.scn ∙ sym number);
   queue = λ going. queue (sym stopped ∙ going);
@@ -74,9 +76,10 @@ module _ {S : Type 0} (s : Ghosts S) where
       → MayAnswer h (s.lsn old.store) call answer → After h call answer now → (h.stopped ≡ false → Retained h call answer now)
       → Knows now new.memory → SameStore s old.store new.store
       → (now.stopped ≡ false → Grows h call answer n × (s.lsn new.store ≡ s.lsn old.store + n) × Goes s now new)
+      → (now.stopped ≡ false → new.memory.dead ≡ dead_owed now)
       → ((before : Option Call) → h.stopped ≡ false → s.keeps → Survives s (s.slots old.store) (failed_in call answer before) h now old.store new.store)
       → Does s h call answer old new
-  does_by h now call answer old new n st reply after retains knows same goes survives = record {
+  does_by h now call answer old new n st reply after retains knows same goes owes survives = record {
     reply = reply;
     now = now;
     after = after;
@@ -86,6 +89,7 @@ module _ {S : Type 0} (s : Ghosts S) where
       shape = same.shape ∙ st.shape ∙ sym (after_shape h now call answer after);
       knows = knows;
       goes = λ going. (goes going).2;
+      owes = owes;
     };
     groups = n;
     grows = λ going. (goes going).0;
@@ -93,6 +97,18 @@ module _ {S : Type 0} (s : Ghosts S) where
     lsn = λ going. (goes going).1;
     survives = survives;
   }
+
+  -- Every call but a sweep leaves the dead as they are.
+  pub does_calm : (h now : State) (call : Call) (answer : Answer) (old new : EngineView S) (n : ℕ) → Stands s h old
+      → MayAnswer h (s.lsn old.store) call answer → After h call answer now → (h.stopped ≡ false → Retained h call answer now)
+      → Knows now new.memory → SameStore s old.store new.store
+      → (now.stopped ≡ false → Grows h call answer n × (s.lsn new.store ≡ s.lsn old.store + n) × Goes s now new)
+      → new.memory.dead ≡ old.memory.dead → ((k : ℕ) → call ≢ Sweep k)
+      → ((before : Option Call) → h.stopped ≡ false → s.keeps → Survives s (s.slots old.store) (failed_in call answer before) h now old.store new.store)
+      → Does s h call answer old new
+  does_calm h now call answer old new n st reply after retains knows same goes dead other survives =
+      does_by h now call answer old new n st reply after retains knows same goes
+      (λ going. dead ∙ (st.owes (went_on h now call answer after going) ∙ sym (calls_owe h now (s.lsn old.store) call answer reply after other))) survives
 
   module _ (told : s.tells) (laws : Laws s) where
     -- The store has a state that differs in what one session has beside its changes.
@@ -126,6 +142,7 @@ module _ {S : Type 0} (s : Ghosts S) where
     does_loaded h call answer old new st reply after grows retains memory logs same =
         does_by h h call answer old new 0 st reply after (λ _. retains) (subst (Knows h) (sym memory) st.knows) same
         (λ going. (grows, (logs going).number refl, goes_logged h old new (st.goes going) (logs going) (ap (λ (k : Kept). k.sessions) memory) (ap (λ (k : Kept). k.copies) memory)))
+        (λ going. ap (λ (k : Kept). k.dead) memory ∙ st.owes going)
         (λ before going keeps. survives_same s told laws h h (st.goes going).xids old.store new.store true st.shape refl refl refl refl (st.goes going).holds (logs going) keeps)
 
     -- A call that makes last all that waits: every commit is acknowledged then.
@@ -150,6 +167,7 @@ module _ {S : Type 0} (s : Ghosts S) where
             copies = copies_same h now goes.xids (s.blocks old.store) (s.blocks new.store) old.memory.copies new.memory.copies refl refl (logs.blocks told refl) (ap (λ (k : Kept). k.copies) memory) goes.copies;
           },
         ))
+        (λ _. ap (λ (k : Kept). k.dead) memory ∙ st.owes going)
         (λ before _ keeps. (both (failed_in call answer before)).1 keeps)
 
     -- A fault of the disk, in calls that gave no group. What memory has is known of the state that is stopped.
@@ -159,6 +177,7 @@ module _ {S : Type 0} (s : Ghosts S) where
         → Does s h call (Refused DiskFault) old new
     does_fault_known h call old new st early knows same survives =
         does_by h (record h { stopped = true }) call (Refused DiskFault) old new 0 st (MayAnswer.fault early refl) refl (λ _ s t k a is done. cc) knows same
+        (λ clash. absurd (false≢true (sym clash)))
         (λ clash. absurd (false≢true (sym clash)))
         (λ before going keeps. survives keeps)
 
@@ -177,10 +196,10 @@ module _ {S : Type 0} (s : Ghosts S) where
         → (1 ≤ who) × (who ≤ length h.sessions) → session.own ≡ session_own h who
         → MayAnswer h (s.lsn old.store) call answer → After h call answer (with_session h who session) → Grows h call answer 0
         → Retained h call answer (with_session h who session) → is_fault answer ≡ false
-        → new.memory.stopped ≡ old.memory.stopped → new.memory.scn ≡ old.memory.scn → new.memory.waits ≡ old.memory.waits → new.memory.copies ≡ old.memory.copies → map (λ k. k.asked) new.memory.sessions ≡ map (λ k. k.asked) old.memory.sessions
+        → new.memory.stopped ≡ old.memory.stopped → new.memory.scn ≡ old.memory.scn → new.memory.waits ≡ old.memory.waits → new.memory.copies ≡ old.memory.copies → new.memory.dead ≡ old.memory.dead → ((k : ℕ) → call ≢ Sweep k) → map (λ k. k.asked) new.memory.sessions ≡ map (λ k. k.asked) old.memory.sessions
         → ((xids : List Xid) → BlocksStand h xids (s.blocks old.store) → Remembers h xids (env_of h.shape (s.blocks old.store)) old.memory.sessions → Remembers (with_session h who session) xids (env_of h.shape (s.blocks old.store)) new.memory.sessions)
         → Logs s old.store new.store [] true → SameStore s old.store new.store → Does s h call answer old new
-    does_session h call answer who session old new st going there own reply after grows retains fine stopped scn waits copies asked remembers logs same =
+    does_session h call answer who session old new st going there own reply after grows retains fine stopped scn waits copies dead other asked remembers logs same =
         let h2 = with_session h who session in
         let goes = st.goes going in
         does_by h h2 call answer old new 0 st reply after (λ _. retains)
@@ -195,6 +214,7 @@ module _ {S : Type 0} (s : Ghosts S) where
             copies = copies_same h h2 goes.xids (s.blocks old.store) (s.blocks new.store) old.memory.copies new.memory.copies refl refl (logs.blocks told refl) copies goes.copies;
           },
         ))
+        (λ _. dead ∙ (st.owes going ∙ sym (calls_owe h h2 (s.lsn old.store) call answer reply after other)))
         (λ before _ keeps. survives_same s told laws h h2 goes.xids old.store new.store true st.shape refl refl refl refl goes.holds logs keeps)
 
     -- One that changed its cursors alone.
@@ -202,7 +222,7 @@ module _ {S : Type 0} (s : Ghosts S) where
         → (1 ≤ who) × (who ≤ length h.sessions)
         → MayAnswer h (s.lsn old.store) call answer → After h call answer (with_cursors h who cursors) → Grows h call answer 0
         → Retained h call answer (with_cursors h who cursors) → is_fault answer ≡ false
-        → new.memory.stopped ≡ old.memory.stopped → new.memory.scn ≡ old.memory.scn → new.memory.waits ≡ old.memory.waits → new.memory.copies ≡ old.memory.copies → map (λ k. k.asked) new.memory.sessions ≡ map (λ k. k.asked) old.memory.sessions
+        → new.memory.stopped ≡ old.memory.stopped → new.memory.scn ≡ old.memory.scn → new.memory.waits ≡ old.memory.waits → new.memory.copies ≡ old.memory.copies → new.memory.dead ≡ old.memory.dead → ((k : ℕ) → call ≢ Sweep k) → map (λ k. k.asked) new.memory.sessions ≡ map (λ k. k.asked) old.memory.sessions
         → ((xids : List Xid) → BlocksStand h xids (s.blocks old.store) → Remembers h xids (env_of h.shape (s.blocks old.store)) old.memory.sessions → Remembers (with_cursors h who cursors) xids (env_of h.shape (s.blocks old.store)) new.memory.sessions)
         → Logs s old.store new.store [] true → SameStore s old.store new.store → Does s h call answer old new
     does_cursors h call answer who cursors old new st going there =

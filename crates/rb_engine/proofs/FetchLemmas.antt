@@ -32,7 +32,7 @@ use Rattle.law_sessions.specs.Views.{history, home_in, IsCursor, Remembers}
 use Rattle.law_sessions.proofs.Fetching as views
 use Rattle.rb_engine.specs.Does.{Does, EngineView, Goes, Kept, Knows, Stands}
 use Rattle.rb_engine.proofs.CleanLemmas.{env_same}
-use Rattle.rb_engine.proofs.DoesLemmas.{after_sessions, does_by, holds_session, knows_on}
+use Rattle.rb_engine.proofs.DoesLemmas.{after_sessions, does_by, does_calm, holds_session, knows_on}
 use Rattle.rb_engine.specs.Cleaning.{CleansRead, HasCleaned, MustIn, ReadIn, Serves}
 use Rattle.rb_engine.specs.Makes.{ReadBy}
 use Rattle.law_crash.proofs.Crashes.{survives_on}
@@ -160,7 +160,7 @@ module _ {S : Type 0} (s : Ghosts S) (laws : Laws s) (h : State) (old : EngineVi
 
   -- of which the store stands for the state
   pub serves : Serves s h goes.xids m old.store
-  serves = record { shape = st.shape; holds = goes.holds; reader = reader; few = let n = st.knows.sixteen in omega (arith, n); going = going }
+  serves = record { shape = st.shape; holds = goes.holds; reader = reader; going = going }
 
   one : (c : state.Cursor) × (cursor_of h who name ≡ Some c) × IsCursor h goes.xids (env_of h.shape blocks) who (record { name = name; cursor = m }) c
   one = cursor_for goes.xids goes.remembers
@@ -240,12 +240,13 @@ module _ {S : Type 0} (s : Ghosts S) (laws : Laws s) (h : State) (old : EngineVi
             copies = kept goes.xids serves goes.copies;
           },
         ))
+        (λ on. ap (λ (k : Kept). k.dead) memory ∙ st.owes on)
         (λ before on keeps. clean.survives (machine.failed_in (machine.Fetch who name) answer before) keeps)
 
-    pub does_row : result ≡ Ok fetched.Row → new.memory.stopped ≡ old.memory.stopped → new.memory.scn ≡ old.memory.scn → new.memory.waits ≡ old.memory.waits
+    pub does_row : result ≡ Ok fetched.Row → new.memory.stopped ≡ old.memory.stopped → new.memory.scn ≡ old.memory.scn → new.memory.waits ≡ old.memory.waits → new.memory.dead ≡ old.memory.dead
         → new.memory.sessions ≡ with_kept old.memory.sessions who (table.with_cursors (kept_at old.memory.sessions who) (with_last name row.key (kept_at old.memory.sessions who).cursors))
         → Does s h (machine.Fetch who name) (machine.Given row.key row.value.items) old new
-    does_row is stopped scn waits moved =
+    does_row is stopped scn waits dead moved =
         let f = finds (Ok fetched.Row) is in
         let gives = views.gives h goes.xids blocks goes.holds.blocks who (record { name = name; cursor = m }) one.0 one.2 f.0 row.key row.value.items f.2 f.3 in
         let session : Session = record (session_of h who) { cursors = with_taken name (cursors_of h who) } in
@@ -254,7 +255,7 @@ module _ {S : Type 0} (s : Ghosts S) (laws : Laws s) (h : State) (old : EngineVi
         let asked = ap (λ (l : List KeptSession). map (λ k. k.asked) l) moved ∙ all_asked old.memory.sessions (who - 1) (table.with_cursors (kept_at old.memory.sessions who) (with_last name row.key (kept_at old.memory.sessions who).cursors)) refl in
         let remembers : Remembers h2 goes.xids (env_of h.shape blocks) new.memory.sessions =
         subst (Remembers h2 goes.xids (env_of h.shape blocks)) (sym moved) (taken h goes.xids blocks goes.holds.blocks who name m f.0 row.key row.value.items f.2 f.3 old.memory.sessions goes.remembers there.0 there.1 is_named) in
-        does_by s h h2 (machine.Fetch who name) (machine.Given row.key row.value.items) old new clean.count st
+        does_calm s h h2 (machine.Fetch who name) (machine.Given row.key row.value.items) old new clean.count st
         (answers _ (machine.Given row.key row.value.items) gives) refl (λ _ s t k a is done. cc)
         (knows_on h h2 old.memory new.memory st.knows (after_sessions h h2 (machine.Fetch who name) (machine.Given row.key row.value.items) refl) refl refl stopped scn (λ on. knows_same h h2 old.memory new.memory refl refl waits asked (st.knows.queue on))) same
         (λ _. (
@@ -267,6 +268,7 @@ module _ {S : Type 0} (s : Ghosts S) (laws : Laws s) (h : State) (old : EngineVi
             copies = copies_same h h2 goes.xids (s.blocks new.store) (s.blocks new.store) new.memory.copies new.memory.copies refl refl refl refl (kept goes.xids serves goes.copies);
           },
         ))
+        dead (λ k is. cc)
         (λ before _ keeps. survives_on s (s.slots old.store) h h h2 old.store new.store new.store going (clean.survives before keeps)
         (subst (λ (k : Option ℕ). Survives s k before h h2 new.store new.store) same.slots (survives_same s st.told laws h h2 goes.xids new.store new.store true (same.shape ∙ st.shape) refl refl refl refl clean.holds (no_logs s new.store runs) keeps)))
 

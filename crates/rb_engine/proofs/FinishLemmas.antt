@@ -139,6 +139,11 @@ module _ {S : Type 0} (s : Ghosts S) (told : s.tells) (laws : Laws s) (h : State
         commits_failed AtOnce new one.groups one.few both one.made
 
 -- neither call is a write
+-- a commit is no sweep
+pub no_sweep : (l : Lasting) (s k : ℕ) → commit_call l s ≢ Sweep k
+no_sweep AtOnce s k is = cc
+no_sweep Later s k is = cc
+
 pub no_write : (l : Lasting) (who s t k : ℕ) (a : Action) → commit_call l who ≡ Write s t k a → {X : Type 0} → X
 no_write AtOnce who s t k a is = cc
 no_write Later who s t k a is = cc
@@ -181,18 +186,18 @@ module _ {S : Type 0} (s : Ghosts S) (told : s.tells) (laws : Laws s) (h : State
 
   module _ (some : 0 < length (session_own h who)) (new : EngineView S) (same : SameStore s old.store new.store) where
     pub does_committed : (l : Lasting) → is_queued who old.memory.waits ≡ false → (n : ℕ) → n ≡ last_scn h.commits + 1 → Commits s l h goes.xids who x old.store new.store true
-        → new.memory.sessions ≡ with_kept old.memory.sessions who (table.committed (kept_at old.memory.sessions who)) → new.memory.waits ≡ freed_by who old.memory.waits → new.memory.scn ≡ n → new.memory.stopped ≡ old.memory.stopped → new.memory.copies ≡ old.memory.copies → Does s h (commit_call l who) (number_told l n) old new
-    does_committed l free n next done table_is waits scn stopped copies =
+        → new.memory.sessions ≡ with_kept old.memory.sessions who (table.committed (kept_at old.memory.sessions who)) → new.memory.waits ≡ freed_by who old.memory.waits → new.memory.scn ≡ n → new.memory.stopped ≡ old.memory.stopped → new.memory.copies ≡ old.memory.copies → new.memory.dead ≡ old.memory.dead → Does s h (commit_call l who) (number_told l n) old new
+    does_committed l free n next done table_is waits scn stopped copies dead =
         let bare : State = committed h who x.seg x.slot in
         let now : State = lasting l (freeing bare who) in
         let full = some_own (session_own h who) some in
         let more : last_scn now.commits ≡ last_scn h.commits + 1 = let l = length-append h.commits.list (session_own h who ∷ []) in omega (arith, l) in
         let stand : BlocksStand bare (goes.xids ++ x ∷ []) (s.blocks new.store) = blocks_stand (lasting l bare) bare.queue bare.asked bare.safe (goes.xids ++ x ∷ []) (s.blocks new.store) done.0.blocks in
-        does_by s h now (commit_call l who) (number_told l n) old new 1 st
+        does_calm s h now (commit_call l who) (number_told l n) old new 1 st
         (may_commit l h (s.lsn old.store) who n full next (no_early h old.memory who st.knows going there free))
         (after_commit l h who n x.seg x.slot full own_by.owned) (λ _ s t k a is done. no_write l who s t k a is)
         (record {
-          sixteen = length-set h.sessions _ _ ∙ st.knows.sixteen;
+          sixteen = subst (λ (n : ℕ). SESSIONS ≤ n) (sym (length-set h.sessions _ _)) st.knows.sixteen;
           stopped = stopped ∙ st.knows.stopped;
           scn = scn ∙ (next ∙ sym more);
           queue = λ on. knows_freed h now old.memory new.memory who refl refl waits (ap (λ (l : List KeptSession). map (λ k. k.asked) l) table_is ∙ all_asked old.memory.sessions (who - 1) (table.committed (kept_at old.memory.sessions who)) refl) (st.knows.queue on);
@@ -212,6 +217,7 @@ module _ {S : Type 0} (s : Ghosts S) (told : s.tells) (laws : Laws s) (h : State
                 (record { stand = stand; ids = done.1; last = last; group = done.4 }) copies goes.copies;
           },
         ))
+        dead (no_sweep l who)
         (λ before _ keeps. subst (λ (k : Option Call). Survives s (s.slots old.store) k h now old.store new.store) (sym (no_failure l who n before)) (survives_queue (lasting l bare) now.queue now.asked s (s.slots old.store) before h old.store new.store (done.3 before keeps)))
 
   pub does_not : (new : EngineView S) → SameStore s old.store new.store → (call : Call) → none_applies (early_tests h call) ≡ true → Fails s (Some call) h old.store new.store → new.memory ≡ record old.memory { stopped = true } → Does s h call (Refused DiskFault) old new
@@ -224,8 +230,8 @@ pub does_ended : {S : Type 0} (s : Ghosts S) (laws : Laws s) (h : State) (call :
     → (HasNoSlot h who → is_empty (session_own h who) ≡ true → After h call Done (freeing (ended h who cursors) who)) → (HasNoSlot h who → is_empty (session_own h who) ≡ true → GrowsBy h call 0)
     → (HasNoSlot h who → session_own h who ≡ [] → (xids : List Xid) → BlocksStand h xids (s.blocks old.store) → Remembers h xids (env_of h.shape (s.blocks old.store)) old.memory.sessions → Remembers (freeing (ended h who cursors) who) xids (env_of h.shape (s.blocks old.store)) new.memory.sessions)
     → map (λ k. k.asked) new.memory.sessions ≡ map (λ k. k.asked) old.memory.sessions → new.memory.waits ≡ freed_by who old.memory.waits
-    → new.memory.scn ≡ old.memory.scn → new.memory.stopped ≡ old.memory.stopped → new.memory.copies ≡ old.memory.copies → new.store ≡ old.store → Does s h call Done old new
-does_ended s laws h call who cursors old new st going there runs retains own empty early reply after grows knows asked waits scn stopped copies store =
+    → new.memory.scn ≡ old.memory.scn → new.memory.stopped ≡ old.memory.stopped → new.memory.copies ≡ old.memory.copies → new.memory.dead ≡ old.memory.dead → ((k : ℕ) → call ≢ Sweep k) → new.store ≡ old.store → Does s h call Done old new
+does_ended s laws h call who cursors old new st going there runs retains own empty early reply after grows knows asked waits scn stopped copies dead other store =
     let goes = st.goes going in
     let session = goes.remembers.each who there.0 there.1 in
     let who_in : (1 ≤ who) × (who ≤ length h.sessions) = let n = st.knows.sixteen in (there.0, omega (arith, there, n)) in
@@ -237,7 +243,7 @@ does_ended s laws h call who cursors old new st going there runs retains own emp
     let nothing = none_own (session_own h who) none in
     let logs = no_logs s old.store runs in
     let kept : Holds s now goes.xids old.store = holds_queue bare now.queue now.asked s goes.xids old.store (holds_session s st.told laws h who goes.xids old.store (record no_session { cursors = map not_present cursors }) who_in (sym own_is) goes.holds) in
-    does_by s h now call Done old new 0 st (reply free nothing) (after free nothing) (λ _. retains now)
+    does_calm s h now call Done old new 0 st (reply free nothing) (after free nothing) (λ _. retains now)
     (knows_on h now old.memory new.memory st.knows (length-set h.sessions _ _) refl refl stopped scn (λ on. knows_freed h now old.memory new.memory who refl refl waits asked (st.knows.queue on)))
     (record { shape = ap s.shape_of store; slots = ap s.slots store })
     (λ _. (
@@ -250,4 +256,5 @@ does_ended s laws h call who cursors old new st going there runs retains own emp
         copies = copies_same h now goes.xids (s.blocks old.store) (s.blocks new.store) old.memory.copies new.memory.copies refl refl (ap s.blocks store) copies goes.copies;
       },
     ))
+    dead other
     (λ before _ keeps. subst (λ (y : _). Survives s (s.slots old.store) before h now old.store y) (sym store) (survives_same s st.told laws h now goes.xids old.store old.store true st.shape refl refl refl refl goes.holds logs keeps))

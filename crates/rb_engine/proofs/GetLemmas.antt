@@ -60,7 +60,7 @@ module _ {S : Type 0} (s : Ghosts S) (h : State) (old : EngineView S) (st : Stan
 
   -- of which the store stands for the state
   pub serves : Serves s h goes.xids m old.store
-  serves = record { shape = st.shape; holds = goes.holds; reader = reader; few = let n = st.knows.sixteen in omega (arith, n); going = going }
+  serves = record { shape = st.shape; holds = goes.holds; reader = reader; going = going }
 
   -- it asks for its key alone, so that no other home has a row of it
   only_key : (f k : ℕ) → IsAskedKey h.shape.blocks m.lo m.hi m.last f k → k ≡ key
@@ -121,6 +121,7 @@ module _ {S : Type 0} (s : Ghosts S) (h : State) (old : EngineView S) (st : Stan
             copies = kept;
           },
         ))
+        (λ on. ap (λ (k : Kept). k.dead) memory ∙ st.owes on)
         (λ before on keeps. clean.survives (machine.failed_in call answer before) keeps)
 
     pub does_row : (row : Row) → HasNext h goes.xids blocks m home row → Does s h call (machine.Given row.key row.value.items) old new

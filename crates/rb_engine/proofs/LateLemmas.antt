@@ -19,7 +19,7 @@ use Rattle.rb_engine.specs.Lateness.{IsKeyWorn, IsRefusedLate, IsTimely, IsWrite
 use Rattle.rb_engine.proofs.DoesLemmas.{does_fault, does_loaded, fault_survives}
 use Rattle.rb_engine.proofs.WriteLemmas.{answered}
 use Rattle.rb_model.specs.Book.{book_at}
-use Rattle.rb_model.specs.Calls.{Action, Answer, Call, Done, ReadsAt, Refused, MayAnswer, Write, WritesIn, early_tests, first_of, is_disk_fault, none_applies, refused_by, serial_tests, waited, write_tests}
+use Rattle.rb_model.specs.Calls.{Action, Answer, Call, Done, ReadsAt, Refused, MayAnswer, Write, WritesAt, early_tests, first_of, is_disk_fault, none_applies, refused_by, serial_tests, waited, write_tests}
 use Rattle.rb_model.specs.Late.{late}
 use Rattle.rb_model.specs.Queue.{Waiter}
 use Rattle.rb_model.specs.Rows.{last_scn}
@@ -126,7 +126,7 @@ none_waited queue s (Some u) own =
 
 -- A write that comes too late for its transaction does nothing.
 module _ {S : Type 0} (s : Ghosts S) (told : s.tells) (laws : Laws s) (h : State) (old : EngineView S) (st : Stands s h old) (going : h.stopped ≡ false) (who table key : ℕ) (action : Action)
-    (there : (1 ≤ who) × (who ≤ SESSIONS)) (early : none_applies (early_tests h (Write who table key action)) ≡ true) (others : NotOthers h who table key) (place : (g : ℕ) × (i : ℕ) × WritesIn h who g i)
+    (there : (1 ≤ who) × (who ≤ SESSIONS)) (early : none_applies (early_tests h (Write who table key action)) ≡ true) (others : NotOthers h who table key) (place : (g : ℕ) × WritesAt h who g)
     (new : EngineView S) (same : SameStore s old.store new.store) where
   abbrev pub goes : Goes s h old
   goes = st.goes going
@@ -134,13 +134,13 @@ module _ {S : Type 0} (s : Ghosts S) (told : s.tells) (laws : Laws s) (h : State
   first_late : (n by : ℕ) → isolation_of h who ≡ isolation.Serializable n → late h.commits n table key ≡ Some by
       → first_of (write_tests h (s.lsn old.store) place.0 who table key action) Done ≡ Refused (refusals.CantSerialize n by)
   first_late n by serial is =
-      first_serial h (s.lsn old.store) place.0 place.1 who table key action others
-      ∙ ap (λ (l : List (Bool × Answer)). first_of (l ++ row_tests h (s.lsn old.store) place.0 place.1 who table key action) Done) (ap (λ (i : Isolation). serial_tests h.commits i table key) serial ∙ ap (refused_by n) is)
+      first_serial h (s.lsn old.store) place.0 who table key action others
+      ∙ ap (λ (l : List (Bool × Answer)). first_of (l ++ row_tests h (s.lsn old.store) place.0 who table key action) Done) (ap (λ (i : Isolation). serial_tests h.commits i table key) serial ∙ ap (refused_by n) is)
 
   step_serial : (why : Refusal) → is_disk_fault why ≡ false → IsRefusedLate h goes.xids (s.blocks old.store) who table key why → new.memory ≡ old.memory → Logs s old.store new.store [] true → Does s h (Write who table key action) (Refused why) old new
   step_serial (refusals.CantSerialize n by) other late memory logs =
       does_loaded s told laws h (Write who table key action) (Refused (refusals.CantSerialize n by)) old new st
-      (answered s told laws h old st going who table key action there early place.0 place.1 place.2 (Refused (refusals.CantSerialize n by)) (first_late n by late.0 late.1)) refl refl (λ s t k a is done. cc) memory (λ _. logs) same
+      (answered s told laws h old st going who table key action there early place.0 place.1 (Refused (refusals.CantSerialize n by)) (first_late n by late.0 late.1)) refl refl (λ s t k a is done. cc) memory (λ _. logs) same
   step_serial (refusals.TooOld n lost) other late memory logs =
       does_loaded s told laws h (Write who table key action) (Refused (refusals.TooOld n lost)) old new st
       (old_reply h goes.xids (s.blocks old.store) goes.holds.blocks (s.lsn old.store) (Write who table key action) _ n n lost early (late.0, none_waited h.queue who (holder h table key) others) late.1)

@@ -7,7 +7,7 @@ use Rattle.rb_base.specs.Logs.{Laws, no_logs}
 use Rattle.rb_base.specs.declared.ids.Xid.{Xid}
 use Rattle.rb_base.specs.declared.store.Store.{Ghosts}
 use Rattle.rb_engine.specs.Does.{Does, EngineView, Goes, Stands}
-use Rattle.rb_engine.proofs.DoesLemmas.{does_by, holds_session, knows_on, with_session}
+use Rattle.rb_engine.proofs.DoesLemmas.{does_calm, holds_session, knows_on, with_session}
 use Rattle.rb_engine.specs.Finishing.{commit_call}
 use Rattle.rb_engine.specs.declared.finish.Lasting.{Lasting}
 use Rattle.rb_engine.proofs.FinishLemmas.{after_end, grows_end, may_end, no_write, goes, no_early, none_own, own_by, own_id}
@@ -56,14 +56,14 @@ module _ {S : Type 0} (s : Ghosts S) (told : s.tells) (laws : Laws s) (h : State
   module _ (new : EngineView S) (same : SameStore s old.store new.store) where
     -- a rollback that went well
     pub does_back : is_queued who old.memory.waits ≡ false → PutsAllBack s h held.xids who x old.store new.store true
-        → new.memory.sessions ≡ with_kept old.memory.sessions who (rolled_back (kept_at old.memory.sessions who)) → new.memory.waits ≡ freed_by who old.memory.waits → new.memory.scn ≡ old.memory.scn → new.memory.stopped ≡ old.memory.stopped → new.memory.copies ≡ old.memory.copies → Does s h (Rollback who) Done old new
-    does_back free done table_is waits scn stopped copies =
+        → new.memory.sessions ≡ with_kept old.memory.sessions who (rolled_back (kept_at old.memory.sessions who)) → new.memory.waits ≡ freed_by who old.memory.waits → new.memory.scn ≡ old.memory.scn → new.memory.stopped ≡ old.memory.stopped → new.memory.copies ≡ old.memory.copies → new.memory.dead ≡ old.memory.dead → Does s h (Rollback who) Done old new
+    does_back free done table_is waits scn stopped copies dead =
         let cursors = left_open 0 (cursors_of h who) in
         let bare = without_owner x.seg x.slot (ended h who cursors) in
         let now = freeing bare who in
         let after : EndsAs h who cursors now = inl (x.seg, x.slot, id.owned, refl) in
         let all = done cursors in
-        does_by s h now (Rollback who) Done old new (length (session_own h who) + 1) st (MayAnswer.later [] (no_early h old.memory who st.knows going there free) refl refl) after (λ _ s t k a is done. cc)
+        does_calm s h now (Rollback who) Done old new (length (session_own h who) + 1) st (MayAnswer.later [] (no_early h old.memory who st.knows going there free) refl refl) after (λ _ s t k a is done. cc)
         (knows_on h now old.memory new.memory st.knows (length-set h.sessions _ _) refl refl stopped scn (λ on. knows_freed h now old.memory new.memory who refl refl waits (ap (λ (l : List KeptSession). map (λ k. k.asked) l) table_is ∙ all_asked old.memory.sessions (who - 1) (rolled_back (kept_at old.memory.sessions who)) refl) (st.knows.queue on))) same
         (λ _. (
           inl (x.seg, x.slot, id.owned, refl),
@@ -76,19 +76,20 @@ module _ {S : Type 0} (s : Ghosts S) (told : s.tells) (laws : Laws s) (h : State
             copies = copies_aged h now held.xids (s.blocks old.store) (s.blocks new.store) old.memory.copies new.memory.copies refl refl held.holds.blocks all.5 copies held.copies;
           },
         ))
+        dead (λ k is. cc)
         (λ before _ keeps. survives_queue bare now.queue now.asked s (s.slots old.store) before h old.store new.store (all.3 before keeps))
 
     -- The end of a transaction of which no change is left, by a commit.
     pub does_left : (l : Lasting) → is_queued who old.memory.waits ≡ false → session_own h who ≡ [] → PutsAllBack s h held.xids who x old.store new.store true
-        → new.memory.sessions ≡ with_kept old.memory.sessions who (kept_committed (kept_at old.memory.sessions who)) → new.memory.waits ≡ freed_by who old.memory.waits → new.memory.scn ≡ old.memory.scn → new.memory.stopped ≡ old.memory.stopped → new.memory.copies ≡ old.memory.copies → Does s h (commit_call l who) Done old new
-    does_left l free none done table_is waits scn stopped copies =
+        → new.memory.sessions ≡ with_kept old.memory.sessions who (kept_committed (kept_at old.memory.sessions who)) → new.memory.waits ≡ freed_by who old.memory.waits → new.memory.scn ≡ old.memory.scn → new.memory.stopped ≡ old.memory.stopped → new.memory.copies ≡ old.memory.copies → new.memory.dead ≡ old.memory.dead → Does s h (commit_call l who) Done old new
+    does_left l free none done table_is waits scn stopped copies dead =
         let cursors = cursors_of h who in
         let bare = without_owner x.seg x.slot (ended h who cursors) in
         let now = freeing bare who in
         let after : EndsAs h who cursors now = inl (x.seg, x.slot, id.owned, refl) in
         let nothing : is_empty (session_own h who) ≡ true = none_own (session_own h who) (ap (λ (l : List Change). length l) none) in
         let all = done cursors in
-        does_by s h now (commit_call l who) Done old new 1 st (may_end l h (s.lsn old.store) who nothing (no_early h old.memory who st.knows going there free)) (after_end l h now who nothing after) (λ _ s t k a is done. no_write l who s t k a is)
+        does_calm s h now (commit_call l who) Done old new 1 st (may_end l h (s.lsn old.store) who nothing (no_early h old.memory who st.knows going there free)) (after_end l h now who nothing after) (λ _ s t k a is done. no_write l who s t k a is)
         (knows_on h now old.memory new.memory st.knows (length-set h.sessions _ _) refl refl stopped scn (λ on. knows_freed h now old.memory new.memory who refl refl waits (ap (λ (l : List KeptSession). map (λ k. k.asked) l) table_is ∙ all_asked old.memory.sessions (who - 1) (kept_committed (kept_at old.memory.sessions who)) refl) (st.knows.queue on))) same
         (λ _. (
           grows_end l h who 1 nothing (inl (x.seg, x.slot, id.owned, refl)),
@@ -101,12 +102,13 @@ module _ {S : Type 0} (s : Ghosts S) (told : s.tells) (laws : Laws s) (h : State
             copies = copies_aged h now held.xids (s.blocks old.store) (s.blocks new.store) old.memory.copies new.memory.copies refl refl held.holds.blocks all.5 copies held.copies;
           },
         ))
+        dead (no_sweep l who)
         (λ before _ keeps. survives_queue bare now.queue now.asked s (s.slots old.store) before h old.store new.store (all.3 before keeps))
 
     -- A rollback to a savepoint that went well.
     pub does_cut : is_queued who old.memory.waits ≡ false → (name : List ℕ) (p : Savepoint) → savepoint_of h who name ≡ Some p → PutsBack s h held.xids who p.kept x old.store new.store true → s.failed new.store ≡ false
-        → new.memory.sessions ≡ with_kept old.memory.sessions who (kept_rolled_to name p.kept (kept_at old.memory.sessions who)) → new.memory.waits ≡ old.memory.waits → new.memory.scn ≡ old.memory.scn → new.memory.stopped ≡ old.memory.stopped → new.memory.copies ≡ old.memory.copies → Does s h (RollbackTo who name) Done old new
-    does_cut free name p named done runs table_is waits scn stopped copies =
+        → new.memory.sessions ≡ with_kept old.memory.sessions who (kept_rolled_to name p.kept (kept_at old.memory.sessions who)) → new.memory.waits ≡ old.memory.waits → new.memory.scn ≡ old.memory.scn → new.memory.stopped ≡ old.memory.stopped → new.memory.copies ≡ old.memory.copies → new.memory.dead ≡ old.memory.dead → Does s h (RollbackTo who name) Done old new
+    does_cut free name p named done runs table_is waits scn stopped copies dead =
         let mine = session_own h who in
         let m : State = with_own h who (take p.kept mine) in
         let now = rolled_to h who name p.kept in
@@ -116,7 +118,7 @@ module _ {S : Type 0} (s : Ghosts S) (told : s.tells) (laws : Laws s) (h : State
         let again : with_session m who session ≡ now = ap (λ (z : List Session). let n : State = record h { sessions = z } in n) (set-set h.sessions (who - 1) (with_changes h who (take p.kept mine)) session) in
         let cut : Holds s (with_session m who session) held.xids new.store = holds_session s told laws m who held.xids new.store session in_m (sym (own_left h who there.0 high (take p.kept mine))) done.0 in
         let shape_new : s.shape_of new.store ≡ h.shape = same.shape ∙ st.shape in
-        does_by s h now (RollbackTo who name) Done old new (length mine - p.kept) st (MayAnswer.later (name_tests h (RollbackTo who name)) (no_early h old.memory who st.knows going there free) refl (rw named refl)) (p, named, refl) (λ _ s t k a is done. cc)
+        does_calm s h now (RollbackTo who name) Done old new (length mine - p.kept) st (MayAnswer.later (name_tests h (RollbackTo who name)) (no_early h old.memory who st.knows going there free) refl (rw named refl)) (p, named, refl) (λ _ s t k a is done. cc)
         (knows_on h now old.memory new.memory st.knows (length-set h.sessions _ _) refl refl stopped scn (λ on. knows_same h now old.memory new.memory refl refl waits (ap (λ (l : List KeptSession). map (λ k. k.asked) l) table_is ∙ all_asked old.memory.sessions (who - 1) (kept_rolled_to name p.kept (kept_at old.memory.sessions who)) refl) (st.knows.queue on))) same
         (λ _. (
           (p, named, refl),
@@ -129,5 +131,6 @@ module _ {S : Type 0} (s : Ghosts S) (told : s.tells) (laws : Laws s) (h : State
             copies = copies_aged h now held.xids (s.blocks old.store) (s.blocks new.store) old.memory.copies new.memory.copies refl refl held.holds.blocks done.5 copies held.copies;
           },
         ))
+        dead (λ k is. cc)
         (λ before _ keeps. survives_on s (s.slots old.store) h m now old.store new.store new.store going (done.3 before keeps)
         (subst (λ (k : Option ℕ). Survives s k before m now new.store new.store) same.slots (survives_same s told laws m now held.xids new.store new.store true shape_new refl refl refl refl done.0 (no_logs s new.store runs) keeps)))

@@ -126,13 +126,13 @@ pub fit_closed : (shape : Shape) (name : List ℕ) (k : KeptSession) → IsFit s
 fit_closed shape name k fit = fit_cursors shape k (without name k.cursors) fit (all_without shape name k.cursors fit.tables)
 
 module _ {S : Type 0} (s : Ghosts S) where
-  module _ (kept now : Kept) (old new : S) (is : IsInStep s kept old) (shape : s.shape_of new ≡ s.shape_of old) where
+  module _ (kept now : Kept) (old new : S) (is : IsInStep s kept old) (shape : s.shape_of new ≡ s.shape_of old) (dead : now.dead ≡ kept.dead) where
     -- how many groups end all transactions
     owed_all : owed_kept kept.sessions ≤ 2 ^ 32 * length kept.sessions
     owed_all = owed_few kept.sessions (λ i. subst (λ (j : ℕ). (get_or kept.sessions j fresh).count < 2 ^ 32) (let e : i + 1 - 1 ≡ i = omega arith in e) (is.small (i + 1)))
 
     -- The table is as it was.
-    in_step_of : now.sessions ≡ kept.sessions → IsQueue now → (now.stopped ≡ false → (s.failed new ≡ false) × (s.lsn new + owed_kept now.sessions ≤ 2 ^ 61 + 2 ^ 60)) → IsInStep s now new
+    in_step_of : now.sessions ≡ kept.sessions → IsQueue now → (now.stopped ≡ false → (s.failed new ≡ false) × (s.lsn new + owed_kept now.sessions + now.dead ≤ 2 ^ 61 + 2 ^ 60)) → IsInStep s now new
     in_step_of same queue goes =
         let at : (u : ℕ) → kept_at now.sessions u ≡ kept_at kept.sessions u = λ u. ap (λ (l : List KeptSession). kept_at l u) same in
         record {
@@ -144,6 +144,7 @@ module _ {S : Type 0} (s : Ghosts S) where
           queue = queue;
           going = λ going. (goes going).0;
           few = λ going. (goes going).1;
+          owed = let owed = is.owed in omega (arith, dead, owed);
         }
 
     -- and the queue may be another one
@@ -152,7 +153,7 @@ module _ {S : Type 0} (s : Ghosts S) where
         let w = goes going in
         let before = is.few w.2 in
         let sum : owed_kept now.sessions ≡ owed_kept kept.sessions = ap owed_kept same in
-        (w.0, omega (arith, w.1, before, sum)))
+        (w.0, omega (arith, w.1, before, sum, dead)))
 
     -- Nothing in memory is.
     pub in_step_same : now.sessions ≡ kept.sessions → now.waits ≡ kept.waits → (now.stopped ≡ false → (s.failed new ≡ false) × (s.lsn new ≤ s.lsn old) × (kept.stopped ≡ false)) → IsInStep s now new
@@ -162,9 +163,9 @@ module _ {S : Type 0} (s : Ghosts S) where
     pub in_step_young : now.sessions ≡ kept.sessions → now.waits ≡ kept.waits → (now.stopped ≡ false → (s.failed new ≡ false) × ((s.lsn new ≤ 2 ^ 60) ⊎ (s.lsn new ≡ s.lsn old)) × (kept.stopped ≡ false)) → IsInStep s now new
     in_step_young same waits goes = in_step_of same (queue_same kept now is.queue waits (λ u. ap (λ (l : List KeptSession). (kept_at l u).asked) same)) (λ going. let w = goes going in (w.0, by w.1 w.2))
       where
-        by : (s.lsn new ≤ 2 ^ 60) ⊎ (s.lsn new ≡ s.lsn old) → kept.stopped ≡ false → s.lsn new + owed_kept now.sessions ≤ 2 ^ 61 + 2 ^ 60
-        by (inl low) on = let sum = ap owed_kept same in let few = owed_all in omega (arith, low, sum, few, is.counted)
-        by (inr as_before) on = let sum = ap owed_kept same in let before = is.few on in omega (arith, as_before, sum, before)
+        by : (s.lsn new ≤ 2 ^ 60) ⊎ (s.lsn new ≡ s.lsn old) → kept.stopped ≡ false → s.lsn new + owed_kept now.sessions + now.dead ≤ 2 ^ 61 + 2 ^ 60
+        by (inl low) on = let sum = ap owed_kept same in let few = owed_all in let owed = is.owed in omega (arith, low, sum, few, is.counted, owed, dead)
+        by (inr as_before) on = let sum = ap owed_kept same in let before = is.few on in omega (arith, as_before, sum, before, dead)
 
     -- Session u of the table is another one.
     module _ (u : ℕ) (there : (1 ≤ u) × (u ≤ SESSIONS)) (k : KeptSession) (fit : IsFit (s.shape_of old) k) (moved : now.sessions ≡ with_kept kept.sessions u k) where
@@ -195,7 +196,7 @@ module _ {S : Type 0} (s : Ghosts S) where
       queue_moved same (inl waits) = queue_same kept now is.queue waits (asked_stays same)
       queue_moved same (inr waits) = queue_freed kept now u is.queue waits (asked_stays same)
 
-      pub in_step_moved : IsQueue now → (now.stopped ≡ false → (s.failed new ≡ false) × (s.lsn new + owed_kept now.sessions ≤ 2 ^ 61 + 2 ^ 60)) → IsInStep s now new
+      pub in_step_moved : IsQueue now → (now.stopped ≡ false → (s.failed new ≡ false) × (s.lsn new + owed_kept now.sessions + now.dead ≤ 2 ^ 61 + 2 ^ 60)) → IsInStep s now new
       in_step_moved queue goes = record {
         counted = ap (λ (l : List KeptSession). length l) moved ∙ (length-set kept.sessions (u - 1) k ∙ is.counted);
         tables = λ r. (fit_now r).tables;
@@ -205,21 +206,23 @@ module _ {S : Type 0} (s : Ghosts S) where
         queue = queue;
         going = λ going. (goes going).0;
         few = λ going. (goes going).1;
+        owed = let owed = is.owed in omega (arith, dead, owed);
       }
 
       -- A change more, behind a log number that isn't worn out.
-      pub few_wrote : s.lsn new ≤ 2 ^ 60 → k.count < 2 ^ 32 → s.lsn new + owed_kept now.sessions ≤ 2 ^ 61 + 2 ^ 60
+      pub few_wrote : s.lsn new ≤ 2 ^ 60 → k.count < 2 ^ 32 → s.lsn new + owed_kept now.sessions + now.dead ≤ 2 ^ 61 + 2 ^ 60
       few_wrote low small =
           let sum = sum_moved in
           let slot = one_slot k.own in
           let few = owed_all in
-          omega (arith, low, small, slot, sum, few, is.counted)
+          let owed = is.owed in
+          omega (arith, low, small, slot, sum, few, is.counted, owed, dead)
 
       -- As many groups end them all as before, or fewer by as many as were given.
-      pub few_less : kept.stopped ≡ false → s.lsn new + owed_by k ≤ s.lsn old + owed_by (kept_at kept.sessions u) → s.lsn new + owed_kept now.sessions ≤ 2 ^ 61 + 2 ^ 60
-      few_less going less = let sum = sum_moved in let before = is.few going in omega (arith, less, sum, before)
+      pub few_less : kept.stopped ≡ false → s.lsn new + owed_by k ≤ s.lsn old + owed_by (kept_at kept.sessions u) → s.lsn new + owed_kept now.sessions + now.dead ≤ 2 ^ 61 + 2 ^ 60
+      few_less going less = let sum = sum_moved in let before = is.few going in omega (arith, less, sum, before, dead)
 
       -- The log may have grown, but not to its end.
-      pub few_young : kept.stopped ≡ false → k.count < 2 ^ 32 → owed_by k ≡ owed_by (kept_at kept.sessions u) → (s.lsn new ≤ 2 ^ 60) ⊎ (s.lsn new ≡ s.lsn old) → s.lsn new + owed_kept now.sessions ≤ 2 ^ 61 + 2 ^ 60
+      pub few_young : kept.stopped ≡ false → k.count < 2 ^ 32 → owed_by k ≡ owed_by (kept_at kept.sessions u) → (s.lsn new ≤ 2 ^ 60) ⊎ (s.lsn new ≡ s.lsn old) → s.lsn new + owed_kept now.sessions + now.dead ≤ 2 ^ 61 + 2 ^ 60
       few_young going small owed (inl low) = few_wrote low small
       few_young going small owed (inr same) = few_less going (omega (arith, same, owed))

@@ -38,6 +38,7 @@ module _ {S : Type 0} (s : Ghosts S) (h : State) (who : ℕ) (kept now : Kept) (
       queue = knows_left;
     };
     goes = λ going. goes_queue h (left_by who h.queue) h.asked s (record { memory = kept; store = store }) now sessions (ap (λ (k : Kept). k.copies) left) (st.goes going);
+    owes = λ going. ap (λ (k : Kept). k.dead) left ∙ st.owes going;
   }
 
   -- A session that waits gives its write up.
@@ -51,6 +52,7 @@ module _ {S : Type 0} (s : Ghosts S) (h : State) (who : ℕ) (kept now : Kept) (
       (MayAnswer.later (name_tests h (machine.Cancel who)) early refl (rw queued refl)) refl (λ _ s t k a is done. cc)
       stands_left.knows (record { shape = refl; slots = refl })
       (λ _. (refl, omega arith, stands_left.goes going))
+      (λ _. stands_left.owes going)
       (λ fault _ keeps. survives_queue h (left_by who h.queue) h.asked s (s.slots store) fault h store store (survives_same s told laws h h goes.xids store store true st.shape refl refl refl refl goes.holds logs keeps))
 
 -- What is done without the session in the queue is done of the engine that had it there.

@@ -1,5 +1,5 @@
 -- What a write of a session does with the state, from the group of its step.
-use Rattle.std.proofs.Common.{◌≡◌, ◌≢◌, ◌≤◌, ◌+◌, ◌/◌, ◌%◌, ◌&&◌, ℕ, Bool, true, false, not, nat_le, List, [], ◌∷◌, ◌++◌, length, map, set, if◌then◌else◌, ◌-◌, Option, Some, None, Result, Ok, Err, IfErr, IfOk, refl, sym, ◌∙◌, ap, subst, arith}
+use Rattle.std.proofs.Common.{◌≡◌, ◌≢◌, inl, inr, ◌≤◌, ◌+◌, ◌/◌, ◌%◌, ◌&&◌, ℕ, Bool, true, false, not, nat_le, List, [], ◌∷◌, ◌++◌, length, map, set, if◌then◌else◌, ◌-◌, Option, Some, None, Result, Ok, Err, IfErr, IfOk, refl, sym, ◌∙◌, ap, subst, arith}
 use Rattle.rb_base.specs.declared.sizes.TheConstants.{SLOTS}
 use Rattle.rb_sessions.specs.declared.sessions.TheConstants.{SESSIONS}
 use Rattle.rb_engine.proofs.CopyLemmas.{copies_same, copies_written}
@@ -18,7 +18,7 @@ use Rattle.rb_base.specs.declared.store.Store.{Ghosts}
 use Rattle.rb_engine.specs.Does.{Does, EngineView, Goes, IsInStep, Kept, Keeps, Knows, Stands}
 use Rattle.rb_engine.specs.Retains.{Retains}
 use Rattle.rb_engine.specs.Scanning.{OtherHolds}
-use Rattle.rb_engine.proofs.DoesLemmas.{does_by, does_fault, does_loaded, goes_logged, knows_on, remembers_logged, refused_none}
+use Rattle.rb_engine.proofs.DoesLemmas.{does_by, does_calm, does_fault, does_loaded, goes_logged, knows_on, remembers_logged, refused_none}
 use Rattle.rb_engine.proofs.QueueLemmas.{all_asked, holds_queue, knows_same, one_asked, queue_waiting, survives_queue}
 use Rattle.rb_engine.proofs.StepLemmas.{few_less, fit_at, fit_held, in_step_moved, in_step_same}
 use Rattle.rb_engine.proofs.RetainsLemmas.{retains}
@@ -27,7 +27,7 @@ use Rattle.law_crash.proofs.Owners.{OwnedBy, owned_by}
 use Rattle.law_crash.proofs.StepsHeld.{holds_written, write_fault}
 use Rattle.law_crash.specs.Crash.{Survives}
 use Rattle.law_crash.specs.Made.{GivesOne, WriteMade}
-use Rattle.rb_model.specs.Calls.{Action, Answer, Call, Done, Refused, MayAnswer, Waits, Write, early_tests, failed_in, first_of, is_disk_fault, none_applies, serial_tests, waited, write_tests, WritesIn}
+use Rattle.rb_model.specs.Calls.{Action, Answer, Call, Done, Refused, MayAnswer, Waits, Write, early_tests, failed_in, first_of, is_disk_fault, none_applies, serial_tests, waited, write_tests, WritesAt, WritesIn}
 use Rattle.rb_model.specs.Change.{Asked}
 use Rattle.rb_model.specs.NextState.{AfterWait, change_in, queued, written}
 use Rattle.rb_model.specs.Answers.{write_answer}
@@ -67,6 +67,11 @@ failed_is faults.WornOut = refl
 pub the_failure : (fault : AttemptFault) → is_disk_fault (refusal_of fault) ≡ true → refusal_of fault ≡ DiskFault
 the_failure fault is = the_fault (refusal_of fault) is
 
+-- where it has a slot, or would take one, it writes
+pub at_place : (h : State) (s g i : ℕ) → WritesIn h s g i → WritesAt h s g
+at_place h s g i (inl owned) = inl (i, owned)
+at_place h s g i (inr (none, begun)) = inr (none, record { within = begun.within; least = begun.least; first = begun.first })
+
 pub same_some : (u v : ℕ) → ◌≡◌ {A = Option ℕ} (Some u) (Some v) → u ≡ v
 same_some u v is = cc
 
@@ -95,14 +100,14 @@ module _ {S : Type 0} (s : Ghosts S) (told : s.tells) (laws : Laws s) (h : State
       subst (λ (n : ℕ). Retains h n after) one (retains h goes.xids (s.blocks old.store) goes.holds.blocks who x.seg x.slot made.in_slot id.there id.few after (change_in h x.seg table key action) refl)
 
   -- by that log number
-  pub answered : (g i : ℕ) → (a : WritesIn h who g i) → (r : Answer) → first_of (write_tests h (s.lsn old.store) g who table key action) Done ≡ r
+  pub answered : (g : ℕ) → WritesAt h who g → (r : Answer) → first_of (write_tests h (s.lsn old.store) g who table key action) Done ≡ r
       → MayAnswer h (s.lsn old.store) (Write who table key action) r
-  answered g i within r is = MayAnswer.later (write_tests h (s.lsn old.store) g who table key action) early (g, i, within, refl) (sym is)
+  answered g within r is = MayAnswer.later (write_tests h (s.lsn old.store) g who table key action) early (g, within, refl) (sym is)
 
   module _ (new : EngineView S) (same : SameStore s old.store new.store) where
     pub step_done : (x : Xid) → GivesOne s old.store new.store true (λ now. WriteMade h goes.xids who table key action x (s.blocks old.store) now)
-        → new.memory.sessions ≡ with_kept old.memory.sessions who (wrote x (kept_at old.memory.sessions who)) → new.memory.waits ≡ old.memory.waits → new.memory.scn ≡ old.memory.scn → new.memory.stopped ≡ old.memory.stopped → new.memory.copies ≡ old.memory.copies → (1 ≤ table) × (table ≤ h.shape.tables) → Does s h (Write who table key action) Done old new
-    step_done x one table_is waits scn stopped copies in_tables =
+        → new.memory.sessions ≡ with_kept old.memory.sessions who (wrote x (kept_at old.memory.sessions who)) → new.memory.waits ≡ old.memory.waits → new.memory.scn ≡ old.memory.scn → new.memory.stopped ≡ old.memory.stopped → new.memory.copies ≡ old.memory.copies → new.memory.dead ≡ old.memory.dead → (1 ≤ table) × (table ≤ h.shape.tables) → Does s h (Write who table key action) Done old new
+    step_done x one table_is waits scn stopped copies dead in_tables =
         let after : State = written h who x.seg x.slot (change_in h x.seg table key action) in
         let high : who ≤ length h.sessions = let n = st.knows.sixteen in omega (arith, n, there.1) in
         let single = one.one refl in
@@ -111,8 +116,8 @@ module _ {S : Type 0} (s : Ghosts S) (told : s.tells) (laws : Laws s) (h : State
         let all : (fault : _) → _ = λ fault. holds_written s told laws h goes.xids who old.store new.store table key action x st.shape goes.holds fault one in
         let granted : first_of (write_tests h (s.lsn old.store) x.seg who table key action) Done ≡ Done = subst (λ (n : ℕ). first_of (write_tests h n x.seg who table key action) Done ≡ Done) (sym goes.holds.logged) made.granted in
         let knows = written_remembered h goes.xids (s.blocks old.store) (s.blocks new.store) who x.seg x.slot (change_in h x.seg table key action) x goes.holds.blocks there.0 high made.in_slot made.stand made.id made.ids old.memory.sessions there.1 goes.remembers in
-        does_by s h after (Write who table key action) Done old new 1 st
-        (answered x.seg x.slot made.in_slot Done granted) (x.seg, x.slot, made.in_slot, refl) (λ _. kept_undo x made)
+        does_calm s h after (Write who table key action) Done old new 1 st
+        (answered x.seg (at_place h who x.seg x.slot made.in_slot) Done granted) (x.seg, x.slot, made.in_slot, refl) (λ _. kept_undo x made)
         (knows_on h after old.memory new.memory st.knows (length-set h.sessions _ _) refl refl stopped scn (λ on. knows_same h after old.memory new.memory refl refl waits (ap (λ (l : List KeptSession). map (λ k. k.asked) l) table_is ∙ all_asked old.memory.sessions (who - 1) (wrote x (kept_at old.memory.sessions who)) refl) (st.knows.queue on))) same
         (λ _. (
           refl,
@@ -124,6 +129,7 @@ module _ {S : Type 0} (s : Ghosts S) (told : s.tells) (laws : Laws s) (h : State
             copies = copies_written h after goes.xids who table key action x (s.blocks old.store) (s.blocks new.store) old.memory.copies new.memory.copies refl refl goes.holds.blocks in_tables made copies goes.copies;
           },
         ))
+        dead (λ k is. cc)
         (λ before _ keeps. (all before).1 keeps)
 
     -- a call of the store failed
@@ -133,19 +139,19 @@ module _ {S : Type 0} (s : Ghosts S) (told : s.tells) (laws : Laws s) (h : State
         (λ keeps. write_fault s told laws h goes.xids who old.store new.store table key action x st.shape goes.holds one keeps)
 
     -- or the write was refused
-    pub step_refused : (why : Refusal) → is_disk_fault why ≡ false → (x : Xid) → WritesIn h who x.seg x.slot → first_of (write_tests h (s.lsn old.store) x.seg who table key action) Done ≡ Refused why
+    pub step_refused : (why : Refusal) → is_disk_fault why ≡ false → (g : ℕ) → WritesAt h who g → first_of (write_tests h (s.lsn old.store) g who table key action) Done ≡ Refused why
         → new.memory ≡ old.memory → Logs s old.store new.store [] true → Does s h (Write who table key action) (Refused why) old new
-    step_refused why other x within is memory logs =
-        does_loaded s told laws h (Write who table key action) (Refused why) old new st (answered x.seg x.slot within (Refused why) is) (rw other refl) (refused_none h (Write who table key action) why) (λ s t k a is done. cc) memory (λ _. logs) same
+    step_refused why other g within is memory logs =
+        does_loaded s told laws h (Write who table key action) (Refused why) old new st (answered g within (Refused why) is) (rw other refl) (refused_none h (Write who table key action) why) (λ s t k a is done. cc) memory (λ _. logs) same
 
-    module _ (u : ℕ) (held : OtherHolds h who table key (Some u)) (place : (g : ℕ) × (i : ℕ) × WritesIn h who g i) (mid : Kept) (before : mid ≡ old.memory) (logs : Logs s old.store new.store [] true) where
+    module _ (u : ℕ) (held : OtherHolds h who table key (Some u)) (place : (g : ℕ) × WritesAt h who g) (mid : Kept) (before : mid ≡ old.memory) (logs : Logs s old.store new.store [] true) where
       queue_is : mid.waits ≡ h.queue
       queue_is = ap (λ (k : Kept). k.waits) before ∙ (st.knows.queue going).waits
 
       first_waited : (b : Bool) → closes mid.waits who u ≡ b → (r : Answer) → (if b then Refused (Deadlock u) else Waits u) ≡ r → first_of (write_tests h (s.lsn old.store) place.0 who table key action) Done ≡ r
       first_waited b ring r is =
-          ap (λ (l : List (Bool × Answer)). first_of l Done) (split_tests h (s.lsn old.store) place.0 place.1 who table key action)
-          ∙ of_holder (holder h table key) held.0 (serial_tests h.commits (isolation_of h who) table key ++ row_tests h (s.lsn old.store) place.0 place.1 who table key action)
+          ap (λ (l : List (Bool × Answer)). first_of l Done) (split_tests h (s.lsn old.store) place.0 who table key action)
+          ∙ of_holder (holder h table key) held.0 (serial_tests h.commits (isolation_of h who) table key ++ row_tests h (s.lsn old.store) place.0 who table key action)
         where
           differ : not (nat_le u who && nat_le who u) ≡ true
           differ = let ne = held.1 in grind (arith, nat_tests)
@@ -167,7 +173,7 @@ module _ {S : Type 0} (s : Ghosts S) (told : s.tells) (laws : Laws s) (h : State
           let sessions : mid.sessions ≡ old.memory.sessions = ap (λ (k : Kept). k.sessions) before in
           let table_is : new.memory.sessions ≡ with_kept old.memory.sessions who (holding asked (kept_at old.memory.sessions who)) = ap (λ (k : Kept). k.sessions) memory ∙ ap (λ (l : List KeptSession). with_kept l who (holding asked (kept_at l who))) sessions in
           does_by s h now (Write who table key action) (Waits u) old new 0 st
-          (answered place.0 place.1 place.2 (Waits u) (first_waited false free (Waits u) refl)) after (λ _ s t k a is done. cc)
+          (answered place.0 place.1 (Waits u) (first_waited false free (Waits u) refl)) after (λ _ s t k a is done. cc)
           (knows_on h now old.memory new.memory st.knows refl refl refl (ap (λ (k : Kept). k.stopped) memory ∙ ap (λ (k : Kept). k.stopped) before) (ap (λ (k : Kept). k.scn) memory ∙ ap (λ (k : Kept). k.scn) before) (λ _. record {
             waits = ap (λ (k : Kept). k.waits) memory ∙ ap (waiting who u) queue_is;
             asked = ap (λ (l : List KeptSession). map (λ k. k.asked) l) table_is ∙ (one_asked old.memory.sessions (who - 1) (holding asked (kept_at old.memory.sessions who)) ∙ ap (λ (l : List (Option Asked)). set l (who - 1) (Some asked)) knows.asked);
@@ -184,13 +190,14 @@ module _ {S : Type 0} (s : Ghosts S) (told : s.tells) (laws : Laws s) (h : State
               copies = copies_same h now goes.xids (s.blocks old.store) (s.blocks new.store) old.memory.copies new.memory.copies refl refl (logs.blocks told refl) (ap (λ (k : Kept). k.copies) memory ∙ ap (λ (k : Kept). k.copies) before) goes.copies;
             },
           ))
+          (λ on. ap (λ (k : Kept). k.dead) memory ∙ (ap (λ (k : Kept). k.dead) before ∙ st.owes going))
           (λ fault _ keeps. survives_queue h now.queue now.asked s (s.slots old.store) fault h old.store new.store (survives_same s told laws h h goes.xids old.store new.store true st.shape refl refl refl refl goes.holds logs keeps))
 
       -- or is not, as they would wait in a ring
       pub step_ring : closes mid.waits who u ≡ true → new.memory ≡ mid → Does s h (Write who table key action) (Refused (Deadlock u)) old new
       step_ring ring memory =
           does_loaded s told laws h (Write who table key action) (Refused (Deadlock u)) old new st
-          (answered place.0 place.1 place.2 (Refused (Deadlock u)) (first_waited true ring (Refused (Deadlock u)) refl)) refl refl (λ s t k a is done. cc) (memory ∙ before) (λ _. logs) same
+          (answered place.0 place.1 (Refused (Deadlock u)) (first_waited true ring (Refused (Deadlock u)) refl)) refl refl (λ s t k a is done. cc) (memory ∙ before) (λ _. logs) same
 
       pub step_waited : (r : Result Wrote Refusal) (asked : Asked) → asked ≡ record { table = table; key = key; action = action }
           → IfErr r (λ why. (why ≡ Deadlock u) × (closes mid.waits who u ≡ true) × (new.memory ≡ mid))
@@ -207,12 +214,12 @@ module _ {S : Type 0} (s : Ghosts S) (kept now : Kept) (old new : S) (is : IsInS
       let k = holding asked (kept_at kept.sessions who) in
       let fit = fit_held (s.shape_of old) asked (kept_at kept.sessions who) (fit_at s kept old is who) in
       let moved : now.sessions ≡ with_kept kept.sessions who k = ap (λ (z : Kept). z.sessions) memory in
-      in_step_moved s kept now old new is logs.same_shape who there k fit moved
+      in_step_moved s kept now old new is logs.same_shape (ap (λ (z : Kept). z.dead) memory) who there k fit moved
       (queue_waiting kept now who u asked is.queue there is.counted free (ap (λ (z : Kept). z.waits) memory) moved)
-      (λ _. (logs.failed, few_less s kept now old new is logs.same_shape who there k fit moved going (let n = logs.number refl in omega (arith, n))))
+      (λ _. (logs.failed, few_less s kept now old new is logs.same_shape (ap (λ (z : Kept). z.dead) memory) who there k fit moved going (let n = logs.number refl in omega (arith, n))))
 
   same_in_step : now ≡ kept → IsInStep s now new
-  same_in_step memory = in_step_same s kept now old new is logs.same_shape (ap (λ (z : Kept). z.sessions) memory) (ap (λ (z : Kept). z.waits) memory)
+  same_in_step memory = in_step_same s kept now old new is logs.same_shape (ap (λ (z : Kept). z.dead) memory) (ap (λ (z : Kept). z.sessions) memory) (ap (λ (z : Kept). z.waits) memory)
       (λ _. (logs.failed, (let n = logs.number refl in omega (arith, n)), going))
 
   pub waited_in_step : (r : Result Wrote Refusal) → IfErr r (λ why. (why ≡ Deadlock u) × (closes kept.waits who u ≡ true) × (now ≡ kept))
@@ -253,6 +260,7 @@ module _ {S : Type 0} (s : Ghosts S) (told : s.tells) (laws : Laws s) (h : State
     shape = logs.same_shape ∙ st.shape;
     knows = subst (Knows h) (sym memory) st.knows;
     goes = λ going. goes_logged s told laws h old mid (st.goes going) logs (ap (λ (k : Kept). k.sessions) memory) (ap (λ (k : Kept). k.copies) memory);
+    owes = λ going. ap (λ (k : Kept). k.dead) memory ∙ st.owes going;
   }
 
   -- the call does what it does without them

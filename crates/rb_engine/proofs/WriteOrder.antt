@@ -38,11 +38,11 @@ use Rattle.rb_rollback.specs.Backs.{SameStore}
 -- The engine stays in order where a call that only loads fails, by which it is stopped, or doesn't.
 pub loaded_in_step : {S : Type 0} (s : Ghosts S) (kept now : Kept) (old new : S) → IsInStep s kept old → kept.stopped ≡ false → s.shape_of new ≡ s.shape_of old → (fault : Bool) → StopsIf fault kept now → (fault ≡ false → Logs s old new [] true) → IsInStep s now new
 loaded_in_step s kept now old new is going shape true stopped logs =
-    in_step_same s kept now old new is shape (ap (λ (k : Kept). k.sessions) stopped) (ap (λ (k : Kept). k.waits) stopped)
+    in_step_same s kept now old new is shape (ap (λ (k : Kept). k.dead) stopped) (ap (λ (k : Kept). k.sessions) stopped) (ap (λ (k : Kept). k.waits) stopped)
     (λ goes. absurd (false≢true (sym goes ∙ ap (λ (k : Kept). k.stopped) stopped)))
 loaded_in_step s kept now old new is going shape false same logs =
     let loaded = logs refl in
-    in_step_same s kept now old new is shape (ap (λ (k : Kept). k.sessions) same) (ap (λ (k : Kept). k.waits) same)
+    in_step_same s kept now old new is shape (ap (λ (k : Kept). k.dead) same) (ap (λ (k : Kept). k.sessions) same) (ap (λ (k : Kept). k.waits) same)
     (λ _. (loaded.failed, (let n = loaded.number refl in omega (arith, n)), going))
 
 pub stops_before : (kept mid now : Kept) (fault : Bool) → mid ≡ kept → StopsIf fault mid now → StopsIf fault kept now

@@ -59,7 +59,6 @@ pub record Serves {S : Type 0} (s : Ghosts S) (h : State) (xids : List Xid) (m :
   pub shape : s.shape_of store ≡ h.shape
   pub holds : Holds s h xids store
   pub reader : IsReader h xids (s.blocks store) m
-  pub few : length h.sessions ≤ 16
   pub going : h.stopped ≡ false
 
 -- a search for a cursor's next row may come to home g: some key of the range is of it, and it isn't before that of the

@@ -14,6 +14,7 @@ use Rattle.law_crash.specs.Holds.{Holds}
 use Rattle.rb_model.specs.Answers.{write_answer}
 use Rattle.rb_model.specs.Calls.{Action, Answer, Call, Done, MayAnswer, Write, failed_in, is_disk_fault}
 use Rattle.rb_model.specs.Change.{Asked}
+use Rattle.rb_model.specs.Dead.{dead_owed}
 use Rattle.rb_model.specs.NextState.{After, Grows, unqueued}
 use Rattle.rb_model.specs.Queue.{Waiter, first_ready, is_queued}
 use Rattle.rb_model.specs.Rows.{last_scn}
@@ -28,13 +29,14 @@ use Rattle.law_sessions.specs.Views.{Remembers}
 use Rattle.rb_waits.specs.Room.{AreQueuedOnce}
 
 -- what the engine has in memory: the table of sessions, the queue of those that wait, the last commit number, whether
--- the disk has failed, and the homes that are kept for readers
+-- the disk has failed, the homes that are kept for readers, and how many groups put back the dead transactions
 pub record Kept : Type 0 where
   pub sessions : List KeptSession
   pub waits : List Waiter
   pub scn : ℕ
   pub stopped : Bool
   pub copies : CopyTable
+  pub dead : ℕ
 
 -- the same memory with these homes kept
 abbrev pub with_copies : CopyTable → Kept → Kept
@@ -75,7 +77,7 @@ pub record IsQueue (kept : Kept) : Type 0 where
 
 -- What keeps an engine in order, whatever its store tells: each transaction's id is of a slot that there is, and a
 -- session without one has no changes. As long as the engine isn't stopped, its store goes on and has numbers for the
--- end of each transaction.
+-- end of each transaction, and of all the dead, which are as many as a file may have.
 pub record IsInStep {S : Type 0} (s : Ghosts S) (kept : Kept) (store : S) : Type 0 where
   pub counted : length kept.sessions ≡ SESSIONS
   pub tables : (u : ℕ) → InTables (s.shape_of store) (kept_at kept.sessions u)
@@ -85,7 +87,8 @@ pub record IsInStep {S : Type 0} (s : Ghosts S) (kept : Kept) (store : S) : Type
   pub idle : (u : ℕ) → (kept_at kept.sessions u).own ≡ None → (kept_at kept.sessions u).count ≡ 0
   pub queue : IsQueue kept
   pub going : kept.stopped ≡ false → s.failed store ≡ false
-  pub few : kept.stopped ≡ false → s.lsn store + owed_kept kept.sessions ≤ 2 ^ 61 + 2 ^ 60
+  pub few : kept.stopped ≡ false → s.lsn store + owed_kept kept.sessions + kept.dead ≤ 2 ^ 61 + 2 ^ 60
+  pub owed : kept.dead ≤ 2 ^ 42
 
 -- the queue and the writes that sessions wait with, in memory and in a state
 pub record KnowsQueue (h : State) (kept : Kept) : Type 0 where
@@ -94,7 +97,7 @@ pub record KnowsQueue (h : State) (kept : Kept) : Type 0 where
 
 -- what memory alone says of a state
 pub record Knows (h : State) (kept : Kept) : Type 0 where
-  pub sixteen : length h.sessions ≡ SESSIONS
+  pub sixteen : SESSIONS ≤ length h.sessions
   pub stopped : kept.stopped ≡ h.stopped
   pub scn : kept.scn ≡ last_scn h.commits
   pub queue : h.stopped ≡ false → KnowsQueue h kept
@@ -112,13 +115,14 @@ pub record Goes {S : Type 0} (s : Ghosts S) (h : State) (e : EngineView S) : Typ
   pub remembers : Remembers h xids (env_of h.shape (s.blocks e.store)) e.memory.sessions
   pub copies : CopiesStand h xids (s.blocks e.store) e.memory.copies.kept
 
--- An engine stands for a state. Of one that is stopped only the answers that are left are told. An engine over a store
--- that tells nothing stands for none.
+-- An engine stands for a state. Of one that is stopped only the answers that are left are told, and of one that isn't
+-- memory has how many groups put back the dead. An engine over a store that tells nothing stands for none.
 pub record Stands {S : Type 0} (s : Ghosts S) (h : State) (e : EngineView S) : Type 0 where
   pub told : s.tells
   pub shape : s.shape_of e.store ≡ h.shape
   pub knows : Knows h e.memory
   pub goes : h.stopped ≡ false → Goes s h e
+  pub owes : h.stopped ≡ false → e.memory.dead ≡ dead_owed h
 
 -- what a call keeps for readers, where it is a write that is done
 abbrev pub Keeps : State → Call → Answer → State → Type 0
@@ -142,16 +146,6 @@ pub record Does {S : Type 0} (s : Ghosts S) (h : State) (call : Call) (answer : 
   pub lsn : now.stopped ≡ false → s.lsn new.store ≡ s.lsn old.store + groups
   pub survives : (before : Option Call) → h.stopped ≡ false → s.keeps
       → Survives s (s.slots old.store) (failed_in call answer before) h now old.store new.store
-
--- A resumed write on an engine that stood for h, which goes on: none is ready, and nothing was done; or it is that of
--- the first ready session, which does what it does as if the session had never been in the queue. A stopped engine
--- tries none.
-abbrev pub Resumes : {S : Type 0} → Ghosts S → State → Option (ℕ × Result Wrote Refusal) → EngineView S
-    → EngineView S → Type 0
-Resumes s h None old new = (h.stopped ≡ false → first_ready h.queue ≡ None) × (new ≡ old)
-Resumes s h (Some (w, outcome)) old new = (h.stopped ≡ false) × (first_ready h.queue ≡ Some w)
-    × (a : Asked) × (asked_of h w ≡ Some a)
-    × Does s (unqueued h w) (Write w a.table a.key a.action) (write_answer outcome) old new
 
 -- whether a resumed write tells of a fault of the disk
 abbrev pub resume_fault : Option (ℕ × Result Wrote Refusal) → Bool

@@ -62,8 +62,3 @@ abbrev pub WriteNeedsLost : {S : Type 0} → Ghosts S → State → EngineView S
     → Type 0
 WriteNeedsLost store h e s table key scn lost =
     (xids : List Xid) × IsWriteWorn h xids (store.blocks e.store) s table key scn lost
-
--- So is a write that is tried again, which is the one that its session waits with.
-abbrev pub ResumeNeedsLost : {S : Type 0} → Ghosts S → State → EngineView S → (s scn lost : ℕ) → Type 0
-ResumeNeedsLost store h e s scn lost = (a : Asked) × (asked_of h s ≡ Some a)
-    × WriteNeedsLost store h e s a.table a.key scn lost

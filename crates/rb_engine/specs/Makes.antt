@@ -106,14 +106,6 @@ Makes h call (Shown s activity) lsn before now = now ≡ before
 Makes h call Idle lsn before now = now ≡ before
 Makes h call (Refused why) lsn before now = MadeRefused h call why lsn before now
 
--- A resumed write makes what the write makes that its session waited with, as if the session had never been in the
--- queue. Where none was tried, no block changed.
-abbrev pub ResumeMakes : State → Option (ℕ × Result Wrote Refusal) → ℕ
-    → (before now : List (List ℕ)) → Type 0
-ResumeMakes h None lsn before now = now ≡ before
-ResumeMakes h (Some (w, outcome)) lsn before now = (a : Asked) × (asked_of h w ≡ Some a)
-    × Makes (unqueued h w) (Write w a.table a.key a.action) (write_answer outcome) lsn before now
-
 -- blocks stand for a state
 abbrev pub StandFor : State → List (List ℕ) → Type 0
 StandFor h blocks = (xids : List Xid) × BlocksStand h xids blocks

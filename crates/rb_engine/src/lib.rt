@@ -7,6 +7,7 @@ mod activity;
 mod ahead;
 mod checks;
 mod cursors;
+mod dead;
 mod engine;
 mod fetch;
 mod finish;
@@ -20,6 +21,7 @@ mod queue;
 mod resume;
 mod savepoints;
 mod scan;
+mod sweep;
 mod write;
 
 pub use ahead::Ahead;

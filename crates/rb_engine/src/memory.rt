@@ -6,8 +6,8 @@ use rb_sessions::Sessions;
 use rb_waits::Waits;
 use std::marker::Model;
 
-/// The sessions, those of them that wait, the last commit number, whether the disk has failed, and the homes that are
-/// kept for readers.
+/// The sessions, those of them that wait, the last commit number, whether the disk has failed, the homes that are kept
+/// for readers, and how many groups put back the dead transactions: 0 says that there are none.
 #[derive(Drop)]
 pub struct Memory {
     pub(crate) sessions: Sessions,
@@ -15,6 +15,7 @@ pub struct Memory {
     pub(crate) scn: Scn,
     pub(crate) stopped: bool,
     pub(crate) copies: Copies,
+    pub(crate) dead: u64,
 }
 
 impl Model for Memory {
@@ -28,6 +29,7 @@ impl Model for Memory {
       scn = a.scn;
       stopped = a.stopped;
       copies = a.copies;
+      dead = a.dead;
     } };
 }
 

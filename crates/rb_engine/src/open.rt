@@ -43,6 +43,7 @@ fn new_memory<T: Store>(store: &mut T, sessions: Sessions, copies: Copies) -> Re
         ≡ commit_scn (T.shape_of store.old) (T.blocks store.old)) }
     ensures going { IfOk result (λ memory. memory.stopped ≡ false) }
     ensures copies { IfOk result (λ memory. memory.copies ≡ copies) }
+    ensures dead { IfOk result (λ memory. memory.dead ≡ 0) }
     ensures logs { Logs T.Store store.old store.new [] (not (is_err result)) }
 {
     let scn = commit_scn_of(store)?;
@@ -52,6 +53,7 @@ fn new_memory<T: Store>(store: &mut T, sessions: Sessions, copies: Copies) -> Re
         scn,
         stopped: false,
         copies,
+        dead: 0,
     })
 }
 

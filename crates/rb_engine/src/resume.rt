@@ -1,11 +1,9 @@
 //! A write of a session that had to wait, tried again. `Engine::resume` calls it.
-ghost use Rattle.std.specs.Prelude.{◌≤◌, ◌≡◌, ◌<◌, ℕ, false, None, Some, Err, IfSome};
+ghost use Rattle.std.specs.Prelude.{◌≤◌, ◌≡◌, ◌<◌, false, None, IfSome};
 ghost use Rattle.std.specs.Option.{is_some};
 ghost use Rattle.rb_base.specs.Counts.{IsCountedAs};
-ghost use Rattle.rb_engine.specs.Does.{IsInStep, Resumes, Stands, resume_fault};
-ghost use Rattle.rb_engine.specs.Lateness.{ResumeNeedsLost};
-ghost use Rattle.rb_engine.specs.Makes.{ResumeMakes};
-ghost use Rattle.law_crash.specs.Made.{TellsLooks};
+ghost use Rattle.rb_engine.specs.Behind.{Resumes};
+ghost use Rattle.rb_engine.specs.Does.{IsInStep, Stands, resume_fault};
 ghost use Rattle.rb_model.specs.Queue.{first_ready, ready_count};
 ghost use Rattle.rb_model.specs.State.{State};
 ghost use Rattle.rb_sessions.specs.declared.sessions.TheConstants.{SESSIONS};
@@ -32,14 +30,6 @@ pub fn do_resume<T: Store>(
     ensures did { (h : State) → Stands T.Store h (record { memory = memory.old; store = store.old })
         → Resumes T.Store h result (record { memory = memory.old; store = store.old })
         (record { memory = memory.new; store = store.new }) }
-    ensures makes { (h : State) → Stands T.Store h (record { memory = memory.old; store = store.old })
-        → resume_fault result ≡ false → ResumeMakes h result
-        (T.lsn store.new) (T.blocks store.old) (T.blocks store.new) }
-    ensures lost { (h : State) → Stands T.Store h (record { memory = memory.old; store = store.old })
-        → (s scn lost : ℕ) → result ≡ Some (s, Err (Refusal.TooOld scn lost)) → ResumeNeedsLost T.Store h
-        (record { memory = memory.old; store = store.old }) s scn lost }
-    ensures tells { (h : State) → Stands T.Store h (record { memory = memory.old; store = store.old })
-        → resume_fault result ≡ false → TellsLooks h.shape (T.blocks store.old) (T.blocks store.new) }
     ensures holds_back { resume_fault result ≡ false → T.holds_back store.old store.new }
     ensures fewer { IfSome result (λ r. ready_count memory.new.waits < ready_count memory.old.waits) }
     ensures idle { first_ready memory.old.waits ≡ None
@@ -79,13 +69,6 @@ impl<T: Store> Engine<T> {
     /// wait again, it does so behind all others. None where no session is ready, and of a stopped engine.
     pub fn resume(&mut self) -> Option<(u16, Result<Wrote, Refusal>)>
         ensures did { (h : State) → Stands T.Store h self.old → Resumes T.Store h result self.old self.new }
-        ensures makes { (h : State) → Stands T.Store h self.old → resume_fault result ≡ false
-            → ResumeMakes h result (T.lsn self.new.store)
-            (T.blocks self.old.store) (T.blocks self.new.store) }
-        ensures lost { (h : State) → Stands T.Store h self.old → (s scn lost : ℕ)
-            → result ≡ Some (s, Err (Refusal.TooOld scn lost)) → ResumeNeedsLost T.Store h self.old s scn lost }
-        ensures tells { (h : State) → Stands T.Store h self.old → resume_fault result ≡ false
-            → TellsLooks h.shape (T.blocks self.old.store) (T.blocks self.new.store) }
         ensures fewer { IfSome result (λ r. ready_count self.new.memory.waits < ready_count self.old.memory.waits) }
         ensures few { ready_count self.old.memory.waits ≤ SESSIONS }
         ensures idle { first_ready self.old.memory.waits ≡ None → (result ≡ None) × (self.new ≡ self.old) }

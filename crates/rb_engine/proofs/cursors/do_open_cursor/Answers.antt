@@ -79,8 +79,8 @@ pub returns-clause-step : goal.returns-clause-step
 returns-clause-step g c =
     let s = g.T.Store in
     let store = c.args.store.now in
-    let old : Kept = record { sessions = c.memory.inside.sessions; waits = c.memory.inside.waits; scn = c.memory.inside.scn; stopped = c.memory.inside.stopped; copies = c.memory.inside.copies } in
-    let now : Kept = record { sessions = c.open_cursor.new.self; waits = c.memory.inside.waits; scn = c.memory.inside.scn; stopped = c.memory.inside.stopped; copies = c.memory.inside.copies } in
+    let old : Kept = record { sessions = c.memory.inside.sessions; waits = c.memory.inside.waits; scn = c.memory.inside.scn; stopped = c.memory.inside.stopped; copies = c.memory.inside.copies; dead = c.memory.inside.dead } in
+    let now : Kept = record { sessions = c.open_cursor.new.self; waits = c.memory.inside.waits; scn = c.memory.inside.scn; stopped = c.memory.inside.stopped; copies = c.memory.inside.copies; dead = c.memory.inside.dead } in
     let is : IsInStep s old store = subst (λ (k : Kept). IsInStep s k store) (sym c.memory.view_is) c.requires.step in
     let k = kept_at c.memory.inside.sessions c.args.s in
     let name = name_text c.args.name.now in
@@ -89,16 +89,16 @@ returns-clause-step g c =
     let of_table = subst (λ (t : ℕ). (1 ≤ t) × (t ≤ (s.shape_of store).tables)) (sym (ap (λ (m : Cursor). m.table) c.cursor_over-cursor.ensures)) here in
     let fit = fit_opened (s.shape_of store) name opened k (fit_at s old store is c.args.s) of_table in
     let moved = with_cursor name opened k in
-    in_step_moved s old now store store is refl c.args.s c.in_ok-check_table.ensures.session moved fit c.open_cursor.ensures
-    (queue_moved s old now store store is refl c.args.s c.in_ok-check_table.ensures.session moved fit c.open_cursor.ensures refl (inl refl))
-    (λ going. (is.going going, few_less s old now store store is refl c.args.s c.in_ok-check_table.ensures.session moved fit c.open_cursor.ensures going (omega arith)))
+    in_step_moved s old now store store is refl refl c.args.s c.in_ok-check_table.ensures.session moved fit c.open_cursor.ensures
+    (queue_moved s old now store store is refl refl c.args.s c.in_ok-check_table.ensures.session moved fit c.open_cursor.ensures refl (inl refl))
+    (λ going. (is.going going, few_less s old now store store is refl refl c.args.s c.in_ok-check_table.ensures.session moved fit c.open_cursor.ensures going (omega arith)))
 
 pub returns-clause-did : goal.returns-clause-did
 returns-clause-did g c = λ h st.
     let s = g.T.Store in
     let store = c.args.store.now in
-    let old : Kept = record { sessions = c.memory.inside.sessions; waits = c.memory.inside.waits; scn = c.memory.inside.scn; stopped = c.memory.inside.stopped; copies = c.memory.inside.copies } in
-    let now : Kept = record { sessions = c.open_cursor.new.self; waits = c.memory.inside.waits; scn = c.memory.inside.scn; stopped = c.memory.inside.stopped; copies = c.memory.inside.copies } in
+    let old : Kept = record { sessions = c.memory.inside.sessions; waits = c.memory.inside.waits; scn = c.memory.inside.scn; stopped = c.memory.inside.stopped; copies = c.memory.inside.copies; dead = c.memory.inside.dead } in
+    let now : Kept = record { sessions = c.open_cursor.new.self; waits = c.memory.inside.waits; scn = c.memory.inside.scn; stopped = c.memory.inside.stopped; copies = c.memory.inside.copies; dead = c.memory.inside.dead } in
     let here : Stands s h (record { memory = old; store = store }) = subst (λ (k : Kept). Stands s h (record { memory = k; store = store })) (sym c.memory.view_is) st in
     let there = c.in_ok-check_table.ensures.session in
     let going = sym st.knows.stopped ∙ c.in_ok-check_table.ensures.going in
@@ -117,7 +117,7 @@ returns-clause-did g c = λ h st.
     subst (λ (m : Kept). Does s h call machine.Done (record { memory = m; store = store }) (record { memory = now; store = store })) c.memory.view_is
     (does_cursors s st.told (laws_of g) h call machine.Done c.args.s (cursors_of h c.args.s ++ opened_cursor h c.args.s name c.args.table c.args.lo c.args.hi ∷ []) (record { memory = old; store = store }) (record { memory = now; store = store }) here going
     (there.0, (let n = st.knows.sixteen in omega (arith, there, n)))
-    (MayAnswer.later (name_tests h call) (c.in_ok-check_table.ensures.granted h (name_text c.args.name.now) c.args.lo c.args.hi st.knows (c.shape.ensures.shape ∙ st.shape)) refl (rw (none, lt-leb CURSORS (length (cursors_of h c.args.s)) few) refl)) refl refl (λ s t k a is done. cc) refl refl refl refl refl
+    (MayAnswer.later (name_tests h call) (c.in_ok-check_table.ensures.granted h (name_text c.args.name.now) c.args.lo c.args.hi st.knows (c.shape.ensures.shape ∙ st.shape)) refl (rw (none, lt-leb CURSORS (length (cursors_of h c.args.s)) few) refl)) refl refl (λ s t k a is done. cc) refl refl refl refl refl refl (λ k is. cc)
     (ap (λ (l : List KeptSession). map (λ k. k.asked) l) c.open_cursor.ensures ∙ all_asked old.sessions (c.args.s - 1) (with_cursor name opened k) refl)
     (λ xids stand is. subst (Remembers (next.with_cursors h c.args.s (cursors_of h c.args.s ++ opened_cursor h c.args.s name c.args.table c.args.lo c.args.hi ∷ [])) xids (env_of h.shape (s.blocks store)))
     (ap (λ (m : Cursor). with_kept old.sessions c.args.s (with_cursor name m k)) (sym same) ∙ sym c.open_cursor.ensures) (views.opened h xids (s.blocks store) old.sessions c.args.s name c.args.table c.args.lo c.args.hi stand is there.0 there.1 in_tables))

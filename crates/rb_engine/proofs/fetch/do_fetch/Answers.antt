@@ -104,7 +104,7 @@ returns-in-Ok-Row-clause-step g c =
     let kept = c.args.memory.now in
     let old = c.args.store.now in
     let new = c.next_row.new.store in
-    let now : Kept = record { sessions = c.took_at.new.self; waits = c.memory.inside.waits; scn = c.memory.inside.scn; stopped = c.memory.inside.stopped; copies = c.next_row.new.copies } in
+    let now : Kept = record { sessions = c.took_at.new.self; waits = c.memory.inside.waits; scn = c.memory.inside.scn; stopped = c.memory.inside.stopped; copies = c.next_row.new.copies; dead = c.memory.inside.dead } in
     let logs = c.in-Ok-Row.ensures.logs.1 in
     let step = c.requires.step in
     let at = kept_at kept.sessions c.args.s in
@@ -114,9 +114,9 @@ returns-in-Ok-Row-clause-step g c =
     let fit = fit_taken (s.shape_of old) name key at (fit_at s kept old step c.args.s) in
     let there = c.in_ok-check_session.ensures.session in
     let moved = moved_by g c in
-    in_step_moved s kept now old new step logs.same_shape c.args.s there k fit moved
-    (queue_moved s kept now old new step logs.same_shape c.args.s there k fit moved refl (inl (ap (λ (k : Kept). k.waits) c.memory.view_is)))
-    (λ _. (logs.failed, few_young s kept now old new step logs.same_shape c.args.s there k fit moved c.in_ok-check_session.ensures.going (fit.small) refl (c.in-Ok-Row.ensures.young refl)))
+    in_step_moved s kept now old new step logs.same_shape refl c.args.s there k fit moved
+    (queue_moved s kept now old new step logs.same_shape refl c.args.s there k fit moved refl (inl (ap (λ (k : Kept). k.waits) c.memory.view_is)))
+    (λ _. (logs.failed, few_young s kept now old new step logs.same_shape refl c.args.s there k fit moved c.in_ok-check_session.ensures.going (fit.small) refl (c.in-Ok-Row.ensures.young refl)))
 
 pub returns-in-Ok-Row-clause-ahead : goal.returns-in-Ok-Row-clause-ahead
 returns-in-Ok-Row-clause-ahead g c =
@@ -128,7 +128,7 @@ returns-in-Ok-Row-clause-ahead g c =
     let is_named = ap (λ (l : List KeptSession). named name (kept_at l c.args.s).cursors) (sym table_is) ∙ (c.cursor_at-cursor.ensures (name_text c.args.name.now) c.in-Some.ensures.1) in
     let there = c.in_ok-check_session.ensures.session in
     let in_table : c.args.s - 1 < length kept.sessions = let n = c.requires.step.counted in omega (arith, n, there) in
-    let now : Kept = record { sessions = c.took_at.new.self; waits = c.memory.inside.waits; scn = c.memory.inside.scn; stopped = c.memory.inside.stopped; copies = c.next_row.new.copies } in
+    let now : Kept = record { sessions = c.took_at.new.self; waits = c.memory.inside.waits; scn = c.memory.inside.scn; stopped = c.memory.inside.stopped; copies = c.next_row.new.copies; dead = c.memory.inside.dead } in
     ahead_of g.T.Store now c.next_row.new.store c.args.s name (behind_key key m) (record { place = c.in-Some.place; home = c.ahead.inside.home; rows = c.ahead.inside.page })
     (subst (λ (l : List KeptSession). named name (kept_at l c.args.s).cursors ≡ Some (behind_key key m)) (sym (moved_by g c)) (named_moved kept.sessions c.args.s name key m in_table is_named))
     (subst (λ (l : List KeptSession). IsAt name (kept_at l c.args.s).cursors c.in-Some.place) (sym (moved_by g c)) (at_moved kept.sessions c.args.s name key c.in-Some.place in_table (subst (λ (l : List KeptSession). IsAt name (kept_at l c.args.s).cursors c.in-Some.place) table_is c.in-Some.ensures)))
@@ -144,10 +144,10 @@ returns-in-Ok-Row-clause-did g c = λ h st.
     let table_is : c.memory.inside.sessions ≡ kept.sessions = ap (λ (k : Kept). k.sessions) c.memory.view_is in
     let is_named = ap (λ (l : List KeptSession). named name (kept_at l c.args.s).cursors) (sym table_is) ∙ (c.cursor_at-cursor.ensures (name_text c.args.name.now) c.in-Some.ensures.1) in
     does_row s (laws_of g) h (record { memory = kept; store = c.args.store.now }) st (sym st.knows.stopped ∙ e.going) c.args.s e.session name (e.granted h st.knows) c.cursor_at-cursor.result is_named
-    (record { memory = record { sessions = c.took_at.new.self; waits = c.memory.inside.waits; scn = c.memory.inside.scn; stopped = c.memory.inside.stopped; copies = c.next_row.new.copies }; store = c.next_row.new.store })
+    (record { memory = record { sessions = c.took_at.new.self; waits = c.memory.inside.waits; scn = c.memory.inside.scn; stopped = c.memory.inside.stopped; copies = c.next_row.new.copies; dead = c.memory.inside.dead }; store = c.next_row.new.store })
     (record { shape = logs.same_shape; slots = logs.same_slots }) logs.failed c.next_row.new.row (Ok c.in-Ok-Row.field-0)
     (λ xids serves copies. c.in-Ok-Row.ensures.found st.told h xids serves (subst (λ (k : Kept). CopiesStand h xids (s.blocks c.args.store.now) k.copies.kept) (sym c.memory.view_is) copies)) (λ xids serves copies. c.in-Ok-Row.ensures.cleans st.told h xids serves (subst (λ (k : Kept). CopiesStand h xids (s.blocks c.args.store.now) k.copies.kept) (sym c.memory.view_is) copies)) (λ xids serves copies. c.in-Ok-Row.ensures.copies st.told h xids serves (subst (λ (k : Kept). CopiesStand h xids (s.blocks c.args.store.now) k.copies.kept) (sym c.memory.view_is) copies) refl) (ap (λ (f : Fetched). let r : Result Fetched CrFault = Ok f in r) c.in-Ok-Row.field-0-is)
-    (ap (λ (k : Kept). k.stopped) c.memory.view_is) (ap (λ (k : Kept). k.scn) c.memory.view_is) (ap (λ (k : Kept). k.waits) c.memory.view_is) (moved_by g c)
+    (ap (λ (k : Kept). k.stopped) c.memory.view_is) (ap (λ (k : Kept). k.scn) c.memory.view_is) (ap (λ (k : Kept). k.waits) c.memory.view_is) (ap (λ (k : Kept). k.dead) c.memory.view_is) (moved_by g c)
 
 pub returns-in-Ok-End-clause-did : goal.returns-in-Ok-End-clause-did
 returns-in-Ok-End-clause-did g c = λ h st.
@@ -161,7 +161,7 @@ returns-in-Ok-End-clause-did g c = λ h st.
     let is_named = ap (λ (l : List KeptSession). named name (kept_at l c.args.s).cursors) (sym table_is) ∙ (c.cursor_at-cursor.ensures (name_text c.args.name.now) c.in-Some.ensures.1) in
     let going : h.stopped ≡ false = sym st.knows.stopped ∙ e.going in
     let early = e.granted h st.knows in
-    does_end s (laws_of g) h old st going c.args.s e.session name early c.cursor_at-cursor.result is_named (record { memory = record { sessions = c.memory.inside.sessions; waits = c.memory.inside.waits; scn = c.memory.inside.scn; stopped = c.memory.inside.stopped; copies = c.next_row.new.copies }; store = c.next_row.new.store })
+    does_end s (laws_of g) h old st going c.args.s e.session name early c.cursor_at-cursor.result is_named (record { memory = record { sessions = c.memory.inside.sessions; waits = c.memory.inside.waits; scn = c.memory.inside.scn; stopped = c.memory.inside.stopped; copies = c.next_row.new.copies; dead = c.memory.inside.dead }; store = c.next_row.new.store })
     (record { shape = logs.same_shape; slots = logs.same_slots }) logs.failed c.next_row.new.row (Ok c.in-Ok-End.field-0)
     (λ xids serves copies. c.in-Ok-End.ensures.found st.told h xids serves (subst (λ (k : Kept). CopiesStand h xids (s.blocks c.args.store.now) k.copies.kept) (sym c.memory.view_is) copies)) (λ xids serves copies. c.in-Ok-End.ensures.cleans st.told h xids serves (subst (λ (k : Kept). CopiesStand h xids (s.blocks c.args.store.now) k.copies.kept) (sym c.memory.view_is) copies)) (λ xids serves copies. c.in-Ok-End.ensures.copies st.told h xids serves (subst (λ (k : Kept). CopiesStand h xids (s.blocks c.args.store.now) k.copies.kept) (sym c.memory.view_is) copies) refl) (ap (λ (f : Fetched). let r : Result Fetched CrFault = Ok f in r) c.in-Ok-End.field-0-is) (ap (with_copies c.next_row.new.copies) c.memory.view_is)
 
@@ -177,7 +177,7 @@ returns-in-Err-TooOld-clause-did g c = λ h st.
     let is_named = ap (λ (l : List KeptSession). named name (kept_at l c.args.s).cursors) (sym table_is) ∙ (c.cursor_at-cursor.ensures (name_text c.args.name.now) c.in-Some.ensures.1) in
     let going : h.stopped ≡ false = sym st.knows.stopped ∙ e.going in
     let early = e.granted h st.knows in
-    does_old s (laws_of g) h old st going c.args.s e.session name early c.cursor_at-cursor.result is_named (record { memory = record { sessions = c.memory.inside.sessions; waits = c.memory.inside.waits; scn = c.memory.inside.scn; stopped = c.memory.inside.stopped; copies = c.next_row.new.copies }; store = c.next_row.new.store })
+    does_old s (laws_of g) h old st going c.args.s e.session name early c.cursor_at-cursor.result is_named (record { memory = record { sessions = c.memory.inside.sessions; waits = c.memory.inside.waits; scn = c.memory.inside.scn; stopped = c.memory.inside.stopped; copies = c.next_row.new.copies; dead = c.memory.inside.dead }; store = c.next_row.new.store })
     (record { shape = logs.same_shape; slots = logs.same_slots }) logs.failed c.next_row.new.row (Err c.in-Err-TooOld.field-0)
     (λ xids serves copies. c.in-Err-TooOld.ensures.found st.told h xids serves (subst (λ (k : Kept). CopiesStand h xids (s.blocks c.args.store.now) k.copies.kept) (sym c.memory.view_is) copies)) (λ xids serves copies. by_fault s h xids (ReadIn h xids (s.blocks c.args.store.now) c.cursor_at-cursor.result) h.shape.blocks c.args.store.now c.next_row.new.store true c.in-Err-TooOld.field-0 (faults.TooOld c.in-Err-TooOld.scn c.in-Err-TooOld.lost) c.in-Err-TooOld.field-0-is refl (c.in-Err-TooOld.ensures.cleans st.told h xids serves (subst (λ (k : Kept). CopiesStand h xids (s.blocks c.args.store.now) k.copies.kept) (sym c.memory.view_is) copies))) (λ xids serves copies. c.in-Err-TooOld.ensures.copies st.told h xids serves (subst (λ (k : Kept). CopiesStand h xids (s.blocks c.args.store.now) k.copies.kept) (sym c.memory.view_is) copies) (ap is_fault c.in-Err-TooOld.field-0-is)) c.in-Err-TooOld.scn c.in-Err-TooOld.lost (ap (λ (f : CrFault). let r : Result Fetched CrFault = Err f in r) c.in-Err-TooOld.field-0-is) (ap (with_copies c.next_row.new.copies) c.memory.view_is)
 
@@ -225,7 +225,7 @@ returns-in-Err-TooOld-clause-lost g c = λ h st scn lost is.
 pub returns-in-Ok-End-clause-step : goal.returns-in-Ok-End-clause-step
 returns-in-Ok-End-clause-step g c =
     let e = c.in-Ok-End.ensures in
-    in_step_young g.T.Store c.args.memory.now (record { sessions = c.memory.inside.sessions; waits = c.memory.inside.waits; scn = c.memory.inside.scn; stopped = c.memory.inside.stopped; copies = c.next_row.new.copies }) c.args.store.now c.next_row.new.store c.requires.step e.logs.1.same_shape
+    in_step_young g.T.Store c.args.memory.now (record { sessions = c.memory.inside.sessions; waits = c.memory.inside.waits; scn = c.memory.inside.scn; stopped = c.memory.inside.stopped; copies = c.next_row.new.copies; dead = c.memory.inside.dead }) c.args.store.now c.next_row.new.store c.requires.step e.logs.1.same_shape refl
     (ap (λ (k : Kept). k.sessions) c.memory.view_is) (ap (λ (k : Kept). k.waits) c.memory.view_is) (λ going. (e.logs.1.failed, e.young refl, sym (ap (λ (k : Kept). k.stopped) c.memory.view_is) ∙ going))
 
 pub returns-in-Err-TooOld-clause-step : goal.returns-in-Err-TooOld-clause-step
@@ -234,7 +234,7 @@ returns-in-Err-TooOld-clause-step g c =
     let s = g.T.Store in
     let old_one : is_fault c.in-Err-TooOld.field-0 ≡ false = ap is_fault c.in-Err-TooOld.field-0-is in
     let logs = subst (λ (f : CrFault). Logs s c.args.store.now c.next_row.new.store e.logs.0 (not (is_fault f))) c.in-Err-TooOld.field-0-is e.logs.1 in
-    in_step_young s c.args.memory.now (record { sessions = c.memory.inside.sessions; waits = c.memory.inside.waits; scn = c.memory.inside.scn; stopped = c.memory.inside.stopped; copies = c.next_row.new.copies }) c.args.store.now c.next_row.new.store c.requires.step logs.same_shape
+    in_step_young s c.args.memory.now (record { sessions = c.memory.inside.sessions; waits = c.memory.inside.waits; scn = c.memory.inside.scn; stopped = c.memory.inside.stopped; copies = c.next_row.new.copies; dead = c.memory.inside.dead }) c.args.store.now c.next_row.new.store c.requires.step logs.same_shape refl
     (ap (λ (k : Kept). k.sessions) c.memory.view_is) (ap (λ (k : Kept). k.waits) c.memory.view_is) (λ going. (logs.failed, e.young old_one, sym (ap (λ (k : Kept). k.stopped) c.memory.view_is) ∙ going))
 
 -- What it cleaned.

@@ -34,8 +34,8 @@ returns-in-Ok-clause-step g c =
     let s = g.T.Store in
     let store = c.args.store.now in
     let new = c.give_commit.new.store in
-    let inside : Kept = record { sessions = c.memory.inside.sessions; waits = c.memory.inside.waits; scn = c.memory.inside.scn; stopped = c.memory.inside.stopped; copies = c.memory.inside.copies } in
-    let now : Kept = record { sessions = c.commit.new.self; waits = c.free.new.self; scn = c.saturating_add-scn.result; stopped = c.memory.inside.stopped; copies = c.memory.inside.copies } in
+    let inside : Kept = record { sessions = c.memory.inside.sessions; waits = c.memory.inside.waits; scn = c.memory.inside.scn; stopped = c.memory.inside.stopped; copies = c.memory.inside.copies; dead = c.memory.inside.dead } in
+    let now : Kept = record { sessions = c.commit.new.self; waits = c.free.new.self; scn = c.saturating_add-scn.result; stopped = c.memory.inside.stopped; copies = c.memory.inside.copies; dead = c.memory.inside.dead } in
     let is : IsInStep s inside store = subst (λ (k : Kept). IsInStep s k store) (sym c.memory.view_is) c.requires.step in
     let own : (kept_at inside.sessions c.args.s).own ≡ Some c.args.xid = ap (λ (k : Kept). (kept_at k.sessions c.args.s).own) c.memory.view_is ∙ c.requires.own in
     let k = kept_at inside.sessions c.args.s in
@@ -43,15 +43,15 @@ returns-in-Ok-clause-step g c =
     let shape = c.give_commit.ensures.same.shape in
     let some : 0 < (kept_at inside.sessions c.args.s).count = subst (λ (k : Kept). 0 < (kept_at k.sessions c.args.s).count) (sym c.memory.view_is) c.requires.some in
     let lsn = c.in-Ok.ensures.lsn in
-    in_step_moved s inside now store new is shape c.args.s c.requires.session (table.committed k) fit c.commit.ensures
-    (queue_moved s inside now store new is shape c.args.s c.requires.session (table.committed k) fit c.commit.ensures refl (inr c.free.ensures))
-    (λ going. (c.in-Ok.ensures.failed, few_less s inside now store new is shape c.args.s c.requires.session (table.committed k) fit c.commit.ensures going (omega (arith, lsn, some))))
+    in_step_moved s inside now store new is shape refl c.args.s c.requires.session (table.committed k) fit c.commit.ensures
+    (queue_moved s inside now store new is shape refl c.args.s c.requires.session (table.committed k) fit c.commit.ensures refl (inr c.free.ensures))
+    (λ going. (c.in-Ok.ensures.failed, few_less s inside now store new is shape refl c.args.s c.requires.session (table.committed k) fit c.commit.ensures going (omega (arith, lsn, some))))
 
 pub returns-in-Ok-clause-did : goal.returns-in-Ok-clause-did
 returns-in-Ok-clause-did g c = λ h st.
     let s = g.T.Store in
     let store = c.args.store.now in
-    let inside : Kept = record { sessions = c.memory.inside.sessions; waits = c.memory.inside.waits; scn = c.memory.inside.scn; stopped = c.memory.inside.stopped; copies = c.memory.inside.copies } in
+    let inside : Kept = record { sessions = c.memory.inside.sessions; waits = c.memory.inside.waits; scn = c.memory.inside.scn; stopped = c.memory.inside.stopped; copies = c.memory.inside.copies; dead = c.memory.inside.dead } in
     let old : EngineView _ = record { memory = inside; store = store } in
     let here : Stands s h old = subst (λ (k : Kept). Stands s h (record { memory = k; store = store })) (sym c.memory.view_is) st in
     let own : (kept_at inside.sessions c.args.s).own ≡ Some c.args.xid = ap (λ (k : Kept). (kept_at k.sessions c.args.s).own) c.memory.view_is ∙ c.requires.own in
@@ -60,7 +60,7 @@ returns-in-Ok-clause-did g c = λ h st.
     let out : is_queued c.args.s inside.waits ≡ false = ap (λ (k : Kept). is_queued c.args.s k.waits) c.memory.view_is ∙ c.requires.free in
     let low = (subst (λ (k : Kept). IsInStep s k store) (sym c.memory.view_is) c.requires.step) in
     let count = count_is s st.told (laws_of g) h old c.args.s c.args.xid here going there own in
-    let new : EngineView _ = record { memory = record { sessions = c.commit.new.self; waits = c.free.new.self; scn = c.saturating_add-scn.result; stopped = c.memory.inside.stopped; copies = c.memory.inside.copies }; store = c.give_commit.new.store } in
+    let new : EngineView _ = record { memory = record { sessions = c.commit.new.self; waits = c.free.new.self; scn = c.saturating_add-scn.result; stopped = c.memory.inside.stopped; copies = c.memory.inside.copies; dead = c.memory.inside.dead }; store = c.give_commit.new.store } in
     let held = goes s st.told (laws_of g) h old c.args.s c.args.xid here going there own in
     let busy : 0 < (kept_at inside.sessions c.args.s).count = subst (λ (k : Kept). 0 < (kept_at k.sessions c.args.s).count) (sym c.memory.view_is) c.requires.some in
     let some : 0 < length (session_own h c.args.s) = omega (arith, busy, count) in
@@ -69,13 +69,13 @@ returns-in-Ok-clause-did g c = λ h st.
     subst (λ (k : Kept). Does s h (commit_call c.args.lasting c.args.s) (number_told c.args.lasting c.saturating_add-scn.result) (record { memory = k; store = store }) new) c.memory.view_is
     (does_committed s st.told (laws_of g) h old c.args.s c.args.xid here going there own some new c.give_commit.ensures.same c.args.lasting out c.saturating_add-scn.result number
     (c.in-Ok.ensures.commits st.told h held.xids c.args.s st.shape held.holds who.0 who.1 (own_id s st.told (laws_of g) h old c.args.s c.args.xid here going there own) some going number)
-    c.commit.ensures c.free.ensures refl refl refl)
+    c.commit.ensures c.free.ensures refl refl refl refl)
 
 pub returns-in-Ok-clause-rows : goal.returns-in-Ok-clause-rows
 returns-in-Ok-clause-rows g c = λ h st.
     let s = g.T.Store in
     let store = c.args.store.now in
-    let inside : Kept = record { sessions = c.memory.inside.sessions; waits = c.memory.inside.waits; scn = c.memory.inside.scn; stopped = c.memory.inside.stopped; copies = c.memory.inside.copies } in
+    let inside : Kept = record { sessions = c.memory.inside.sessions; waits = c.memory.inside.waits; scn = c.memory.inside.scn; stopped = c.memory.inside.stopped; copies = c.memory.inside.copies; dead = c.memory.inside.dead } in
     let old : EngineView _ = record { memory = inside; store = store } in
     let here : Stands s h old = subst (λ (k : Kept). Stands s h (record { memory = k; store = store })) (sym c.memory.view_is) st in
     let own : (kept_at inside.sessions c.args.s).own ≡ Some c.args.xid = ap (λ (k : Kept). (kept_at k.sessions c.args.s).own) c.memory.view_is ∙ c.requires.own in
@@ -95,7 +95,7 @@ pub returns-in-Err-clause-did : goal.returns-in-Err-clause-did
 returns-in-Err-clause-did g c = rw c.fail.ensures.answer (λ h st.
     let s = g.T.Store in
     let store = c.args.store.now in
-    let inside : Kept = record { sessions = c.memory.inside.sessions; waits = c.memory.inside.waits; scn = c.memory.inside.scn; stopped = c.memory.inside.stopped; copies = c.memory.inside.copies } in
+    let inside : Kept = record { sessions = c.memory.inside.sessions; waits = c.memory.inside.waits; scn = c.memory.inside.scn; stopped = c.memory.inside.stopped; copies = c.memory.inside.copies; dead = c.memory.inside.dead } in
     let old : EngineView _ = record { memory = inside; store = store } in
     let here : Stands s h old = subst (λ (k : Kept). Stands s h (record { memory = k; store = store })) (sym c.memory.view_is) st in
     let own : (kept_at inside.sessions c.args.s).own ≡ Some c.args.xid = ap (λ (k : Kept). (kept_at k.sessions c.args.s).own) c.memory.view_is ∙ c.requires.own in
@@ -119,7 +119,7 @@ pub returns-in-Ok-clause-makes : goal.returns-in-Ok-clause-makes
 returns-in-Ok-clause-makes g c = λ h st fine.
     let s = g.T.Store in
     let store = c.args.store.now in
-    let inside : Kept = record { sessions = c.memory.inside.sessions; waits = c.memory.inside.waits; scn = c.memory.inside.scn; stopped = c.memory.inside.stopped; copies = c.memory.inside.copies } in
+    let inside : Kept = record { sessions = c.memory.inside.sessions; waits = c.memory.inside.waits; scn = c.memory.inside.scn; stopped = c.memory.inside.stopped; copies = c.memory.inside.copies; dead = c.memory.inside.dead } in
     let old : EngineView _ = record { memory = inside; store = store } in
     let here : Stands s h old = subst (λ (k : Kept). Stands s h (record { memory = k; store = store })) (sym c.memory.view_is) st in
     let own : (kept_at inside.sessions c.args.s).own ≡ Some c.args.xid = ap (λ (k : Kept). (kept_at k.sessions c.args.s).own) c.memory.view_is ∙ c.requires.own in

@@ -13,7 +13,7 @@ use Rattle.law_blocks.specs.Standing.{env_of}
 use Rattle.law_sessions.proofs.Ended.{end_remembered}
 use Rattle.rb_engine.proofs.QueueLemmas.{all_asked}
 use Rattle.rb_engine.proofs.DoesLemmas.{does_refused}
-use Rattle.rb_engine.proofs.FinishLemmas.{after_end, does_ended, early_commit, grows_end, may_end, no_write, reads_nothing}
+use Rattle.rb_engine.proofs.FinishLemmas.{after_end, no_sweep, does_ended, early_commit, grows_end, may_end, no_write, reads_nothing}
 use Rattle.rb_engine.proofs.StepLemmas.{few_less, fit_at, fit_committed, in_step_moved, queue_moved}
 use Rattle.law_sessions.specs.Views.{Remembers}
 use Rattle.rb_engine.proofs.MakesLemmas.{makes_nothing, makes_refused}
@@ -42,22 +42,22 @@ pub returns-in-None-clause-step : goal.returns-in-None-clause-step
 returns-in-None-clause-step g c =
     let s = g.T.Store in
     let store = c.args.store.now in
-    let inside : Kept = record { sessions = c.memory.inside.sessions; waits = c.memory.inside.waits; scn = c.memory.inside.scn; stopped = c.memory.inside.stopped; copies = c.memory.inside.copies } in
+    let inside : Kept = record { sessions = c.memory.inside.sessions; waits = c.memory.inside.waits; scn = c.memory.inside.scn; stopped = c.memory.inside.stopped; copies = c.memory.inside.copies; dead = c.memory.inside.dead } in
     let is : IsInStep s inside store = subst (λ (k : Kept). IsInStep s k store) (sym c.memory.view_is) c.requires.step in
-    let now : Kept = record { sessions = c.commit.new.self; waits = c.free.new.self; scn = c.memory.inside.scn; stopped = c.memory.inside.stopped; copies = c.memory.inside.copies } in
+    let now : Kept = record { sessions = c.commit.new.self; waits = c.free.new.self; scn = c.memory.inside.scn; stopped = c.memory.inside.stopped; copies = c.memory.inside.copies; dead = c.memory.inside.dead } in
     let k = kept_at inside.sessions c.args.s in
     let fit = fit_committed (s.shape_of store) k (fit_at s inside store is c.args.s) in
-    in_step_moved s inside now store store is refl c.args.s c.in_ok-check_session.ensures.session (table.committed k) fit c.commit.ensures
-    (queue_moved s inside now store store is refl c.args.s c.in_ok-check_session.ensures.session (table.committed k) fit c.commit.ensures refl (inr c.free.ensures))
-    (λ going. (is.going going, few_less s inside now store store is refl c.args.s c.in_ok-check_session.ensures.session (table.committed k) fit c.commit.ensures going (omega arith)))
+    in_step_moved s inside now store store is refl refl c.args.s c.in_ok-check_session.ensures.session (table.committed k) fit c.commit.ensures
+    (queue_moved s inside now store store is refl refl c.args.s c.in_ok-check_session.ensures.session (table.committed k) fit c.commit.ensures refl (inr c.free.ensures))
+    (λ going. (is.going going, few_less s inside now store store is refl refl c.args.s c.in_ok-check_session.ensures.session (table.committed k) fit c.commit.ensures going (omega arith)))
 
 pub returns-in-None-clause-did : goal.returns-in-None-clause-did
 returns-in-None-clause-did g c = λ h st.
     let s = g.T.Store in
     let store = c.args.store.now in
-    let inside : Kept = record { sessions = c.memory.inside.sessions; waits = c.memory.inside.waits; scn = c.memory.inside.scn; stopped = c.memory.inside.stopped; copies = c.memory.inside.copies } in
+    let inside : Kept = record { sessions = c.memory.inside.sessions; waits = c.memory.inside.waits; scn = c.memory.inside.scn; stopped = c.memory.inside.stopped; copies = c.memory.inside.copies; dead = c.memory.inside.dead } in
     let is : IsInStep s inside store = subst (λ (k : Kept). IsInStep s k store) (sym c.memory.view_is) c.requires.step in
-    let now : Kept = record { sessions = c.commit.new.self; waits = c.free.new.self; scn = c.memory.inside.scn; stopped = c.memory.inside.stopped; copies = c.memory.inside.copies } in
+    let now : Kept = record { sessions = c.commit.new.self; waits = c.free.new.self; scn = c.memory.inside.scn; stopped = c.memory.inside.stopped; copies = c.memory.inside.copies; dead = c.memory.inside.dead } in
     let old : EngineView _ = record { memory = inside; store = store } in
     let new : EngineView _ = record { memory = now; store = store } in
     let here : Stands s h old = subst (λ (k : Kept). Stands s h (record { memory = k; store = store })) (sym c.memory.view_is) st in
@@ -72,13 +72,13 @@ returns-in-None-clause-did g c = λ h st.
     (λ free none. may_end l h (s.lsn store) c.args.s none early) (λ free none. after_end l h (freeing (ended h c.args.s (cursors_of h c.args.s)) c.args.s) c.args.s none (inr (free, refl))) (λ free none. grows_end l h c.args.s 0 none (inr (free, refl)))
     (λ free empty xids stand knows. subst (Remembers (freeing (ended h c.args.s (cursors_of h c.args.s)) c.args.s) xids (env_of h.shape (s.blocks store))) (sym c.commit.ensures) (end_remembered h (freeing (ended h c.args.s (cursors_of h c.args.s)) c.args.s) xids (s.blocks store) (env_of h.shape (s.blocks store)) inside.sessions c.args.s stand knows there.0 there.1 empty (inr (free, refl)) (λ u t owns. refl)))
     (ap (λ (l : List KeptSession). map (λ k. k.asked) l) c.commit.ensures ∙ all_asked inside.sessions (c.args.s - 1) (table.committed (kept_at inside.sessions c.args.s)) refl) c.free.ensures
-    refl refl refl refl)
+    refl refl refl refl (no_sweep l c.args.s) refl)
 
 pub returns-in-None-clause-makes : goal.returns-in-None-clause-makes
 returns-in-None-clause-makes g c = λ h st fine.
     let s = g.T.Store in
     let store = c.args.store.now in
-    let inside : Kept = record { sessions = c.memory.inside.sessions; waits = c.memory.inside.waits; scn = c.memory.inside.scn; stopped = c.memory.inside.stopped; copies = c.memory.inside.copies } in
+    let inside : Kept = record { sessions = c.memory.inside.sessions; waits = c.memory.inside.waits; scn = c.memory.inside.scn; stopped = c.memory.inside.stopped; copies = c.memory.inside.copies; dead = c.memory.inside.dead } in
     let is : IsInStep s inside store = subst (λ (k : Kept). IsInStep s k store) (sym c.memory.view_is) c.requires.step in
     let old : EngineView _ = record { memory = inside; store = store } in
     let here : Stands s h old = subst (λ (k : Kept). Stands s h (record { memory = k; store = store })) (sym c.memory.view_is) st in

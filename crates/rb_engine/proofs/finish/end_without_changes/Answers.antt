@@ -36,8 +36,8 @@ returns-clause-step g c =
     let s = g.T.Store in
     let store = c.args.store.now in
     let new = c.put_all_back.new.store in
-    let inside : Kept = record { sessions = c.memory.inside.sessions; waits = c.memory.inside.waits; scn = c.memory.inside.scn; stopped = c.memory.inside.stopped; copies = c.memory.inside.copies } in
-    let now : Kept = record { sessions = c.commit.new.self; waits = c.free.new.self; scn = c.memory.inside.scn; stopped = c.memory.inside.stopped; copies = c.memory.inside.copies } in
+    let inside : Kept = record { sessions = c.memory.inside.sessions; waits = c.memory.inside.waits; scn = c.memory.inside.scn; stopped = c.memory.inside.stopped; copies = c.memory.inside.copies; dead = c.memory.inside.dead } in
+    let now : Kept = record { sessions = c.commit.new.self; waits = c.free.new.self; scn = c.memory.inside.scn; stopped = c.memory.inside.stopped; copies = c.memory.inside.copies; dead = c.memory.inside.dead } in
     let is : IsInStep s inside store = subst (λ (k : Kept). IsInStep s k store) (sym c.memory.view_is) c.requires.step in
     let own : (kept_at inside.sessions c.args.s).own ≡ Some c.args.xid = ap (λ (k : Kept). (kept_at k.sessions c.args.s).own) c.memory.view_is ∙ c.requires.own in
     let k = kept_at inside.sessions c.args.s in
@@ -45,15 +45,15 @@ returns-clause-step g c =
     let shape = c.put_all_back.ensures.same.shape in
     let slot : slots_had k.own ≡ 1 = ap slots_had own in
     let lsn = c.in-Ok.ensures.lsn in
-    in_step_moved s inside now store new is shape c.args.s c.requires.session (table.committed k) fit c.commit.ensures
-    (queue_moved s inside now store new is shape c.args.s c.requires.session (table.committed k) fit c.commit.ensures refl (inr c.free.ensures))
-    (λ going. (c.in-Ok.ensures.failed, few_less s inside now store new is shape c.args.s c.requires.session (table.committed k) fit c.commit.ensures going (omega (arith, lsn, slot))))
+    in_step_moved s inside now store new is shape refl c.args.s c.requires.session (table.committed k) fit c.commit.ensures
+    (queue_moved s inside now store new is shape refl c.args.s c.requires.session (table.committed k) fit c.commit.ensures refl (inr c.free.ensures))
+    (λ going. (c.in-Ok.ensures.failed, few_less s inside now store new is shape refl c.args.s c.requires.session (table.committed k) fit c.commit.ensures going (omega (arith, lsn, slot))))
 
 pub returns-clause-did : goal.returns-clause-did
 returns-clause-did g c = λ l h st.
     let s = g.T.Store in
     let store = c.args.store.now in
-    let inside : Kept = record { sessions = c.memory.inside.sessions; waits = c.memory.inside.waits; scn = c.memory.inside.scn; stopped = c.memory.inside.stopped; copies = c.memory.inside.copies } in
+    let inside : Kept = record { sessions = c.memory.inside.sessions; waits = c.memory.inside.waits; scn = c.memory.inside.scn; stopped = c.memory.inside.stopped; copies = c.memory.inside.copies; dead = c.memory.inside.dead } in
     let old : EngineView _ = record { memory = inside; store = store } in
     let here : Stands s h old = subst (λ (k : Kept). Stands s h (record { memory = k; store = store })) (sym c.memory.view_is) st in
     let own : (kept_at inside.sessions c.args.s).own ≡ Some c.args.xid = ap (λ (k : Kept). (kept_at k.sessions c.args.s).own) c.memory.view_is ∙ c.requires.own in
@@ -63,19 +63,19 @@ returns-clause-did g c = λ l h st.
     let low = (subst (λ (k : Kept). IsInStep s k store) (sym c.memory.view_is) c.requires.step) in
     let count = count_is s st.told (laws_of g) h old c.args.s c.args.xid here going there own in
     let none : length (session_own h c.args.s) ≡ 0 = sym count ∙ (ap (λ (k : Kept). (kept_at k.sessions c.args.s).count) c.memory.view_is ∙ c.requires.none) in
-    let new : EngineView _ = record { memory = record { sessions = c.commit.new.self; waits = c.free.new.self; scn = c.memory.inside.scn; stopped = c.memory.inside.stopped; copies = c.memory.inside.copies }; store = c.put_all_back.new.store } in
+    let new : EngineView _ = record { memory = record { sessions = c.commit.new.self; waits = c.free.new.self; scn = c.memory.inside.scn; stopped = c.memory.inside.stopped; copies = c.memory.inside.copies; dead = c.memory.inside.dead }; store = c.put_all_back.new.store } in
     let held = goes s st.told (laws_of g) h old c.args.s c.args.xid here going there own in
     let who = who_in s st.told (laws_of g) h old c.args.s c.args.xid here going there own in
     subst (λ (k : Kept). Does s h (commit_call l c.args.s) machine.Done (record { memory = k; store = store }) new) c.memory.view_is
     (does_left s st.told (laws_of g) h old c.args.s c.args.xid here going there own new c.put_all_back.ensures.same l out (no_items (session_own h c.args.s) none)
     (c.in-Ok.ensures.puts_back st.told h held.xids c.args.s st.shape held.holds who.0 who.1 (own_id s st.told (laws_of g) h old c.args.s c.args.xid here going there own) going none)
-    c.commit.ensures c.free.ensures refl refl refl)
+    c.commit.ensures c.free.ensures refl refl refl refl)
 
 pub returns-clause-rows : goal.returns-clause-rows
 returns-clause-rows g c = λ h st.
     let s = g.T.Store in
     let store = c.args.store.now in
-    let inside : Kept = record { sessions = c.memory.inside.sessions; waits = c.memory.inside.waits; scn = c.memory.inside.scn; stopped = c.memory.inside.stopped; copies = c.memory.inside.copies } in
+    let inside : Kept = record { sessions = c.memory.inside.sessions; waits = c.memory.inside.waits; scn = c.memory.inside.scn; stopped = c.memory.inside.stopped; copies = c.memory.inside.copies; dead = c.memory.inside.dead } in
     let old : EngineView _ = record { memory = inside; store = store } in
     let here : Stands s h old = subst (λ (k : Kept). Stands s h (record { memory = k; store = store })) (sym c.memory.view_is) st in
     let own : (kept_at inside.sessions c.args.s).own ≡ Some c.args.xid = ap (λ (k : Kept). (kept_at k.sessions c.args.s).own) c.memory.view_is ∙ c.requires.own in
@@ -112,7 +112,7 @@ pub returns-clause-makes : goal.returns-clause-makes
 returns-clause-makes g c = λ l h st fine.
     let s = g.T.Store in
     let store = c.args.store.now in
-    let inside : Kept = record { sessions = c.memory.inside.sessions; waits = c.memory.inside.waits; scn = c.memory.inside.scn; stopped = c.memory.inside.stopped; copies = c.memory.inside.copies } in
+    let inside : Kept = record { sessions = c.memory.inside.sessions; waits = c.memory.inside.waits; scn = c.memory.inside.scn; stopped = c.memory.inside.stopped; copies = c.memory.inside.copies; dead = c.memory.inside.dead } in
     let old : EngineView _ = record { memory = inside; store = store } in
     let here : Stands s h old = subst (λ (k : Kept). Stands s h (record { memory = k; store = store })) (sym c.memory.view_is) st in
     let own : (kept_at inside.sessions c.args.s).own ≡ Some c.args.xid = ap (λ (k : Kept). (kept_at k.sessions c.args.s).own) c.memory.view_is ∙ c.requires.own in

@@ -63,7 +63,7 @@ returns-in-Ok-true-clause-did g c = λ h st.
     let home_is : home ≡ c.args.key % h.shape.blocks = c.home_of-home.ensures.home ∙ ap (λ (z : Shape). c.args.key % z.blocks) shape_is in
     let served = serves s h old st going c.args.s e.session c.args.table c.args.key there early m m_is home home_is in
     let copies = subst (λ (k : Kept). CopiesStand h goes.xids (s.blocks c.args.store.now) k.copies.kept) (sym c.memory.view_is) goes.copies in
-    let now : Kept = record { sessions = c.memory.inside.sessions; waits = c.memory.inside.waits; scn = c.memory.inside.scn; stopped = c.memory.inside.stopped; copies = c.next_in.new.copies } in
+    let now : Kept = record { sessions = c.memory.inside.sessions; waits = c.memory.inside.waits; scn = c.memory.inside.scn; stopped = c.memory.inside.stopped; copies = c.next_in.new.copies; dead = c.memory.inside.dead } in
     let new : EngineView _ = record { memory = now; store = c.next_in.new.store } in
     let a = c.in-Ok-true.ensures in
     let clean : HasCleaned s h goes.xids (IsHere h.shape m home) (IsHere h.shape m home) 1 c.args.store.now c.next_in.new.store = a.cleans st.told h goes.xids served in
@@ -87,7 +87,7 @@ returns-in-Ok-true-clause-makes g c = λ h st fine.
     let home_is : home ≡ c.args.key % h.shape.blocks = c.home_of-home.ensures.home ∙ ap (λ (z : Shape). c.args.key % z.blocks) shape_is in
     let served = serves s h old st going c.args.s e.session c.args.table c.args.key there early m m_is home home_is in
     let copies = subst (λ (k : Kept). CopiesStand h goes.xids (s.blocks c.args.store.now) k.copies.kept) (sym c.memory.view_is) goes.copies in
-    let now : Kept = record { sessions = c.memory.inside.sessions; waits = c.memory.inside.waits; scn = c.memory.inside.scn; stopped = c.memory.inside.stopped; copies = c.next_in.new.copies } in
+    let now : Kept = record { sessions = c.memory.inside.sessions; waits = c.memory.inside.waits; scn = c.memory.inside.scn; stopped = c.memory.inside.stopped; copies = c.next_in.new.copies; dead = c.memory.inside.dead } in
     let new : EngineView _ = record { memory = now; store = c.next_in.new.store } in
     let a = c.in-Ok-true.ensures in
     let clean : HasCleaned s h goes.xids (IsHere h.shape m home) (IsHere h.shape m home) 1 c.args.store.now c.next_in.new.store = a.cleans st.told h goes.xids served in
@@ -96,7 +96,7 @@ returns-in-Ok-true-clause-makes g c = λ h st fine.
 pub returns-in-Ok-true-clause-step : goal.returns-in-Ok-true-clause-step
 returns-in-Ok-true-clause-step g c =
     let a = c.in-Ok-true.ensures in
-    in_step_young g.T.Store c.args.memory.now (record { sessions = c.memory.inside.sessions; waits = c.memory.inside.waits; scn = c.memory.inside.scn; stopped = c.memory.inside.stopped; copies = c.next_in.new.copies }) c.args.store.now c.next_in.new.store c.requires.step a.logs.1.same_shape
+    in_step_young g.T.Store c.args.memory.now (record { sessions = c.memory.inside.sessions; waits = c.memory.inside.waits; scn = c.memory.inside.scn; stopped = c.memory.inside.stopped; copies = c.next_in.new.copies; dead = c.memory.inside.dead }) c.args.store.now c.next_in.new.store c.requires.step a.logs.1.same_shape refl
     (ap (λ (k : Kept). k.sessions) c.memory.view_is) (ap (λ (k : Kept). k.waits) c.memory.view_is) (λ going. (a.logs.1.failed, a.young refl, sym (ap (λ (k : Kept). k.stopped) c.memory.view_is) ∙ going))
 
 pub returns-in-Ok-true-clause-holds_back : goal.returns-in-Ok-true-clause-holds_back
@@ -119,7 +119,7 @@ returns-in-Ok-false-clause-did g c = λ h st.
     let home_is : home ≡ c.args.key % h.shape.blocks = c.home_of-home.ensures.home ∙ ap (λ (z : Shape). c.args.key % z.blocks) shape_is in
     let served = serves s h old st going c.args.s e.session c.args.table c.args.key there early m m_is home home_is in
     let copies = subst (λ (k : Kept). CopiesStand h goes.xids (s.blocks c.args.store.now) k.copies.kept) (sym c.memory.view_is) goes.copies in
-    let now : Kept = record { sessions = c.memory.inside.sessions; waits = c.memory.inside.waits; scn = c.memory.inside.scn; stopped = c.memory.inside.stopped; copies = c.next_in.new.copies } in
+    let now : Kept = record { sessions = c.memory.inside.sessions; waits = c.memory.inside.waits; scn = c.memory.inside.scn; stopped = c.memory.inside.stopped; copies = c.next_in.new.copies; dead = c.memory.inside.dead } in
     let new : EngineView _ = record { memory = now; store = c.next_in.new.store } in
     let a = c.in-Ok-false.ensures in
     let clean : HasCleaned s h goes.xids (IsHere h.shape m home) (IsHere h.shape m home) 1 c.args.store.now c.next_in.new.store = a.cleans st.told h goes.xids served in
@@ -143,7 +143,7 @@ returns-in-Ok-false-clause-makes g c = λ h st fine.
     let home_is : home ≡ c.args.key % h.shape.blocks = c.home_of-home.ensures.home ∙ ap (λ (z : Shape). c.args.key % z.blocks) shape_is in
     let served = serves s h old st going c.args.s e.session c.args.table c.args.key there early m m_is home home_is in
     let copies = subst (λ (k : Kept). CopiesStand h goes.xids (s.blocks c.args.store.now) k.copies.kept) (sym c.memory.view_is) goes.copies in
-    let now : Kept = record { sessions = c.memory.inside.sessions; waits = c.memory.inside.waits; scn = c.memory.inside.scn; stopped = c.memory.inside.stopped; copies = c.next_in.new.copies } in
+    let now : Kept = record { sessions = c.memory.inside.sessions; waits = c.memory.inside.waits; scn = c.memory.inside.scn; stopped = c.memory.inside.stopped; copies = c.next_in.new.copies; dead = c.memory.inside.dead } in
     let new : EngineView _ = record { memory = now; store = c.next_in.new.store } in
     let a = c.in-Ok-false.ensures in
     let clean : HasCleaned s h goes.xids (IsHere h.shape m home) (IsHere h.shape m home) 1 c.args.store.now c.next_in.new.store = a.cleans st.told h goes.xids served in
@@ -152,7 +152,7 @@ returns-in-Ok-false-clause-makes g c = λ h st fine.
 pub returns-in-Ok-false-clause-step : goal.returns-in-Ok-false-clause-step
 returns-in-Ok-false-clause-step g c =
     let a = c.in-Ok-false.ensures in
-    in_step_young g.T.Store c.args.memory.now (record { sessions = c.memory.inside.sessions; waits = c.memory.inside.waits; scn = c.memory.inside.scn; stopped = c.memory.inside.stopped; copies = c.next_in.new.copies }) c.args.store.now c.next_in.new.store c.requires.step a.logs.1.same_shape
+    in_step_young g.T.Store c.args.memory.now (record { sessions = c.memory.inside.sessions; waits = c.memory.inside.waits; scn = c.memory.inside.scn; stopped = c.memory.inside.stopped; copies = c.next_in.new.copies; dead = c.memory.inside.dead }) c.args.store.now c.next_in.new.store c.requires.step a.logs.1.same_shape refl
     (ap (λ (k : Kept). k.sessions) c.memory.view_is) (ap (λ (k : Kept). k.waits) c.memory.view_is) (λ going. (a.logs.1.failed, a.young refl, sym (ap (λ (k : Kept). k.stopped) c.memory.view_is) ∙ going))
 
 pub returns-in-Ok-false-clause-holds_back : goal.returns-in-Ok-false-clause-holds_back
@@ -175,7 +175,7 @@ returns-in-Err-TooOld-clause-did g c = λ h st.
     let home_is : home ≡ c.args.key % h.shape.blocks = c.home_of-home.ensures.home ∙ ap (λ (z : Shape). c.args.key % z.blocks) shape_is in
     let served = serves s h old st going c.args.s e.session c.args.table c.args.key there early m m_is home home_is in
     let copies = subst (λ (k : Kept). CopiesStand h goes.xids (s.blocks c.args.store.now) k.copies.kept) (sym c.memory.view_is) goes.copies in
-    let now : Kept = record { sessions = c.memory.inside.sessions; waits = c.memory.inside.waits; scn = c.memory.inside.scn; stopped = c.memory.inside.stopped; copies = c.next_in.new.copies } in
+    let now : Kept = record { sessions = c.memory.inside.sessions; waits = c.memory.inside.waits; scn = c.memory.inside.scn; stopped = c.memory.inside.stopped; copies = c.next_in.new.copies; dead = c.memory.inside.dead } in
     let new : EngineView _ = record { memory = now; store = c.next_in.new.store } in
     let logs = subst (λ (f : CrFault). Logs s c.args.store.now c.next_in.new.store c.in-Err-TooOld.ensures.logs.0 (not (is_fault f))) c.in-Err-TooOld.field-0-is c.in-Err-TooOld.ensures.logs.1 in
     let behind : IsBehind h goes.xids (s.blocks c.args.store.now) m home (faults.TooOld c.in-Err-TooOld.scn c.in-Err-TooOld.lost) = subst (IsBehind h goes.xids (s.blocks c.args.store.now) m home) c.in-Err-TooOld.field-0-is (c.in-Err-TooOld.ensures.old st.told h goes.xids served copies).1 in
@@ -200,7 +200,7 @@ returns-in-Err-TooOld-clause-makes g c = λ h st fine.
     let home_is : home ≡ c.args.key % h.shape.blocks = c.home_of-home.ensures.home ∙ ap (λ (z : Shape). c.args.key % z.blocks) shape_is in
     let served = serves s h old st going c.args.s e.session c.args.table c.args.key there early m m_is home home_is in
     let copies = subst (λ (k : Kept). CopiesStand h goes.xids (s.blocks c.args.store.now) k.copies.kept) (sym c.memory.view_is) goes.copies in
-    let now : Kept = record { sessions = c.memory.inside.sessions; waits = c.memory.inside.waits; scn = c.memory.inside.scn; stopped = c.memory.inside.stopped; copies = c.next_in.new.copies } in
+    let now : Kept = record { sessions = c.memory.inside.sessions; waits = c.memory.inside.waits; scn = c.memory.inside.scn; stopped = c.memory.inside.stopped; copies = c.next_in.new.copies; dead = c.memory.inside.dead } in
     let new : EngineView _ = record { memory = now; store = c.next_in.new.store } in
     let clean : HasCleaned s h goes.xids (IsHere h.shape m home) (IsHere h.shape m home) 1 c.args.store.now c.next_in.new.store = subst (λ (f : CrFault). Cleans s h goes.xids (IsHere h.shape m home) (IsHere h.shape m home) 1 c.args.store.now c.next_in.new.store (not (is_fault f))) c.in-Err-TooOld.field-0-is (c.in-Err-TooOld.ensures.cleans st.told h goes.xids served) in
     key_read s h old st going c.args.s e.session c.args.table c.args.key there early m m_is home home_is c.next_in.new.store clean ⊥
@@ -222,7 +222,7 @@ returns-in-Err-TooOld-clause-lost g c = λ h st scn lost same.
     let home_is : home ≡ c.args.key % h.shape.blocks = c.home_of-home.ensures.home ∙ ap (λ (z : Shape). c.args.key % z.blocks) shape_is in
     let served = serves s h old st going c.args.s e.session c.args.table c.args.key there early m m_is home home_is in
     let copies = subst (λ (k : Kept). CopiesStand h goes.xids (s.blocks c.args.store.now) k.copies.kept) (sym c.memory.view_is) goes.copies in
-    let now : Kept = record { sessions = c.memory.inside.sessions; waits = c.memory.inside.waits; scn = c.memory.inside.scn; stopped = c.memory.inside.stopped; copies = c.next_in.new.copies } in
+    let now : Kept = record { sessions = c.memory.inside.sessions; waits = c.memory.inside.waits; scn = c.memory.inside.scn; stopped = c.memory.inside.stopped; copies = c.next_in.new.copies; dead = c.memory.inside.dead } in
     let new : EngineView _ = record { memory = now; store = c.next_in.new.store } in
     let behind : IsBehind h goes.xids (s.blocks c.args.store.now) m home (faults.TooOld c.in-Err-TooOld.scn c.in-Err-TooOld.lost) = subst (IsBehind h goes.xids (s.blocks c.args.store.now) m home) c.in-Err-TooOld.field-0-is (c.in-Err-TooOld.ensures.old st.told h goes.xids served copies).1 in
     let numbers = same_old c.in-Err-TooOld.scn c.in-Err-TooOld.lost scn lost same in
@@ -234,7 +234,7 @@ returns-in-Err-TooOld-clause-step g c =
     let a = c.in-Err-TooOld.ensures in
     let old_one : is_fault c.in-Err-TooOld.field-0 ≡ false = ap is_fault c.in-Err-TooOld.field-0-is in
     let logs = subst (λ (f : CrFault). Logs s c.args.store.now c.next_in.new.store c.in-Err-TooOld.ensures.logs.0 (not (is_fault f))) c.in-Err-TooOld.field-0-is c.in-Err-TooOld.ensures.logs.1 in
-    in_step_young s c.args.memory.now (record { sessions = c.memory.inside.sessions; waits = c.memory.inside.waits; scn = c.memory.inside.scn; stopped = c.memory.inside.stopped; copies = c.next_in.new.copies }) c.args.store.now c.next_in.new.store c.requires.step logs.same_shape
+    in_step_young s c.args.memory.now (record { sessions = c.memory.inside.sessions; waits = c.memory.inside.waits; scn = c.memory.inside.scn; stopped = c.memory.inside.stopped; copies = c.next_in.new.copies; dead = c.memory.inside.dead }) c.args.store.now c.next_in.new.store c.requires.step logs.same_shape refl
     (ap (λ (k : Kept). k.sessions) c.memory.view_is) (ap (λ (k : Kept). k.waits) c.memory.view_is) (λ going. (logs.failed, a.young old_one, sym (ap (λ (k : Kept). k.stopped) c.memory.view_is) ∙ going))
 
 pub returns-in-Err-TooOld-clause-holds_back : goal.returns-in-Err-TooOld-clause-holds_back
@@ -260,7 +260,7 @@ returns-in-Err-Failed-clause-did g c = rw c.fail.ensures.answer (λ h st.
     let home_is : home ≡ c.args.key % h.shape.blocks = c.home_of-home.ensures.home ∙ ap (λ (z : Shape). c.args.key % z.blocks) shape_is in
     let served = serves s h old st going c.args.s e.session c.args.table c.args.key there early m m_is home home_is in
     let copies = subst (λ (k : Kept). CopiesStand h goes.xids (s.blocks c.args.store.now) k.copies.kept) (sym c.memory.view_is) goes.copies in
-    let now : Kept = record { sessions = c.memory.inside.sessions; waits = c.memory.inside.waits; scn = c.memory.inside.scn; stopped = c.memory.inside.stopped; copies = c.next_in.new.copies } in
+    let now : Kept = record { sessions = c.memory.inside.sessions; waits = c.memory.inside.waits; scn = c.memory.inside.scn; stopped = c.memory.inside.stopped; copies = c.next_in.new.copies; dead = c.memory.inside.dead } in
     let new : EngineView _ = record { memory = now; store = c.next_in.new.store } in
     let logs = subst (λ (f : CrFault). Logs s c.args.store.now c.next_in.new.store c.in-Err-Failed.ensures.logs.0 (not (is_fault f))) c.in-Err-Failed.field-0-is c.in-Err-Failed.ensures.logs.1 in
     let kept_now = c.next_in.new.copies in
@@ -294,6 +294,6 @@ returns-in_err-check_table-clause-holds_back g c =
 
 pub returns-in-Err-Failed-clause-step : goal.returns-in-Err-Failed-clause-step
 returns-in-Err-Failed-clause-step g c =
-    in_step_young g.T.Store c.args.memory.now c.fail.new.self c.args.store.now c.next_in.new.store c.requires.step c.in-Err-Failed.ensures.logs.1.same_shape
+    in_step_young g.T.Store c.args.memory.now c.fail.new.self c.args.store.now c.next_in.new.store c.requires.step c.in-Err-Failed.ensures.logs.1.same_shape refl
     (ap (λ (k : Kept). k.sessions) c.fail.ensures.stopped ∙ ap (λ (k : Kept). k.sessions) c.memory.view_is) (ap (λ (k : Kept). k.waits) c.fail.ensures.stopped ∙ ap (λ (k : Kept). k.waits) c.memory.view_is)
     (λ going. (let clash : true ≡ false = sym (ap (λ (k : Kept). k.stopped) c.fail.ensures.stopped) ∙ going in absurd cc))

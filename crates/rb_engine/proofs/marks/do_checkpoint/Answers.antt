@@ -46,7 +46,7 @@ returns-in-Ok-clause-step g c =
     let s = g.T.Store in
     let e = c.in-Ok.ensures in
     let logs : Flushes s c.args.store.now c.checkpoint.new.self [] true = flush_logs s c.args.store.now c.checkpoint.new.self (Ok c.in-Ok.field-0) e.shape e.slots e.failed e.counted e.lsn e.blocks e.settles e.any_moment in
-    in_step_same s c.args.memory.now c.args.memory.now c.args.store.now c.checkpoint.new.self c.requires.step e.shape refl refl (λ going. (logs.failed, (let n = logs.number refl in omega (arith, n)), going))
+    in_step_same s c.args.memory.now c.args.memory.now c.args.store.now c.checkpoint.new.self c.requires.step e.shape refl refl refl (λ going. (logs.failed, (let n = logs.number refl in omega (arith, n)), going))
 
 pub returns-in-Err-clause-leaves : goal.returns-in-Err-clause-leaves
 returns-in-Err-clause-leaves g c = λ h st going fault keeps.

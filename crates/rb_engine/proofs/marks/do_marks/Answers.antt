@@ -41,7 +41,7 @@ returns-clause-step g c =
     let e = c.load.ensures in
     let fine : is_err c.load.result ≡ false = sym c.is_err.ensures.value ∙ c.if-is_err.false in
     let logs : Logs s c.args.store.now c.load.new.self [] true = subst (λ (b : Bool). Logs s c.args.store.now c.load.new.self [] (not b)) fine (load_logs s c.args.store.now c.load.new.self c.load.result e.shape e.slots e.failed e.counted e.lsn e.blocks e.settles e.any_moment e.holds_back) in
-    in_step_same s c.args.memory.now c.args.memory.now c.args.store.now c.load.new.self c.requires.step e.shape refl refl (λ going. (logs.failed, (let n = logs.number refl in omega (arith, n)), going))
+    in_step_same s c.args.memory.now c.args.memory.now c.args.store.now c.load.new.self c.requires.step e.shape refl refl refl (λ going. (logs.failed, (let n = logs.number refl in omega (arith, n)), going))
 
 pub returns-clause-did : goal.returns-clause-did
 returns-clause-did g c = λ h st.

@@ -58,22 +58,22 @@ pub returns-clause-step : goal.returns-clause-step
 returns-clause-step g c =
     let s = g.T.Store in
     let store = c.args.store.now in
-    let old : Kept = record { sessions = c.memory.inside.sessions; waits = c.memory.inside.waits; scn = c.memory.inside.scn; stopped = c.memory.inside.stopped; copies = c.memory.inside.copies } in
-    let now : Kept = record { sessions = c.set_isolation.new.self; waits = c.memory.inside.waits; scn = c.memory.inside.scn; stopped = c.memory.inside.stopped; copies = c.memory.inside.copies } in
+    let old : Kept = record { sessions = c.memory.inside.sessions; waits = c.memory.inside.waits; scn = c.memory.inside.scn; stopped = c.memory.inside.stopped; copies = c.memory.inside.copies; dead = c.memory.inside.dead } in
+    let now : Kept = record { sessions = c.set_isolation.new.self; waits = c.memory.inside.waits; scn = c.memory.inside.scn; stopped = c.memory.inside.stopped; copies = c.memory.inside.copies; dead = c.memory.inside.dead } in
     let is : IsInStep s old store = subst (λ (k : Kept). IsInStep s k store) (sym c.memory.view_is) c.requires.step in
     let k = kept_at c.memory.inside.sessions c.args.s in
     let i = c.isolation_at.result in
     let fit = fit_isolated (s.shape_of store) i k (fit_at s old store is c.args.s) in
-    in_step_moved s old now store store is refl c.args.s c.in_ok-check_session.ensures.session (isolated i k) fit c.set_isolation.ensures
-    (queue_moved s old now store store is refl c.args.s c.in_ok-check_session.ensures.session (isolated i k) fit c.set_isolation.ensures refl (inl refl))
-    (λ going. (is.going going, few_less s old now store store is refl c.args.s c.in_ok-check_session.ensures.session (isolated i k) fit c.set_isolation.ensures going (omega arith)))
+    in_step_moved s old now store store is refl refl c.args.s c.in_ok-check_session.ensures.session (isolated i k) fit c.set_isolation.ensures
+    (queue_moved s old now store store is refl refl c.args.s c.in_ok-check_session.ensures.session (isolated i k) fit c.set_isolation.ensures refl (inl refl))
+    (λ going. (is.going going, few_less s old now store store is refl refl c.args.s c.in_ok-check_session.ensures.session (isolated i k) fit c.set_isolation.ensures going (omega arith)))
 
 pub returns-clause-did : goal.returns-clause-did
 returns-clause-did g c = λ h st.
     let s = g.T.Store in
     let store = c.args.store.now in
-    let old : Kept = record { sessions = c.memory.inside.sessions; waits = c.memory.inside.waits; scn = c.memory.inside.scn; stopped = c.memory.inside.stopped; copies = c.memory.inside.copies } in
-    let now : Kept = record { sessions = c.set_isolation.new.self; waits = c.memory.inside.waits; scn = c.memory.inside.scn; stopped = c.memory.inside.stopped; copies = c.memory.inside.copies } in
+    let old : Kept = record { sessions = c.memory.inside.sessions; waits = c.memory.inside.waits; scn = c.memory.inside.scn; stopped = c.memory.inside.stopped; copies = c.memory.inside.copies; dead = c.memory.inside.dead } in
+    let now : Kept = record { sessions = c.set_isolation.new.self; waits = c.memory.inside.waits; scn = c.memory.inside.scn; stopped = c.memory.inside.stopped; copies = c.memory.inside.copies; dead = c.memory.inside.dead } in
     let here : Stands s h (record { memory = old; store = store }) = subst (λ (k : Kept). Stands s h (record { memory = k; store = store })) (sym c.memory.view_is) st in
     let there = c.in_ok-check_session.ensures.session in
     let going = sym st.knows.stopped ∙ c.in_ok-check_session.ensures.going in
@@ -89,7 +89,7 @@ returns-clause-did g c = λ h st.
     subst (λ (k : Kept). Does s h call machine.Done (record { memory = k; store = store }) (record { memory = now; store = store })) c.memory.view_is
     (does_session s st.told (laws_of g) h call machine.Done c.args.s (record (session_of h c.args.s) { isolation = mode }) (record { memory = old; store = store }) (record { memory = now; store = store }) here going
     (there.0, (let n = st.knows.sixteen in omega (arith, there, n))) refl
-    (MayAnswer.later (name_tests h call) (c.in_ok-check_session.ensures.granted h st.knows) refl (rw unbegun refl)) refl refl (λ s t k a is done. cc) refl refl refl refl refl
+    (MayAnswer.later (name_tests h call) (c.in_ok-check_session.ensures.granted h st.knows) refl (rw unbegun refl)) refl refl (λ s t k a is done. cc) refl refl refl refl refl refl (λ k is. cc)
     (ap (λ (l : List KeptSession). map (λ k. k.asked) l) moved ∙ all_asked old.sessions (c.args.s - 1) (isolated mode (kept_at old.sessions c.args.s)) refl)
     (λ xids stand is. subst (Remembers (next.with_isolation h c.args.s mode) xids (env_of h.shape (s.blocks store))) (sym moved) (isolated_remembered h xids (env_of h.shape (s.blocks store)) old.sessions c.args.s c.args.mode is there.0 there.1))
     (no_logs s store ((subst (λ (k : Kept). IsInStep s k store) (sym c.memory.view_is) c.requires.step).going (ap (λ (k : Kept). k.stopped) c.memory.view_is ∙ c.in_ok-check_session.ensures.going)))

@@ -40,20 +40,20 @@ pub returns-clause-step : goal.returns-clause-step
 returns-clause-step g c =
     let s = g.T.Store in
     let store = c.args.store.now in
-    let old : Kept = record { sessions = c.memory.inside.sessions; waits = c.memory.inside.waits; scn = c.memory.inside.scn; stopped = c.memory.inside.stopped; copies = c.memory.inside.copies } in
-    let now : Kept = record { sessions = c.memory.inside.sessions; waits = c.leave.new.self; scn = c.memory.inside.scn; stopped = c.memory.inside.stopped; copies = c.memory.inside.copies } in
+    let old : Kept = record { sessions = c.memory.inside.sessions; waits = c.memory.inside.waits; scn = c.memory.inside.scn; stopped = c.memory.inside.stopped; copies = c.memory.inside.copies; dead = c.memory.inside.dead } in
+    let now : Kept = record { sessions = c.memory.inside.sessions; waits = c.leave.new.self; scn = c.memory.inside.scn; stopped = c.memory.inside.stopped; copies = c.memory.inside.copies; dead = c.memory.inside.dead } in
     let is : IsInStep s old store = subst (λ (k : Kept). IsInStep s k store) (sym c.memory.view_is) c.requires.step in
-    in_step_queue s old now store store is refl refl (queue_left old now c.args.s is.queue c.leave.ensures refl) (λ going. (is.going going, omega arith, going))
+    in_step_queue s old now store store is refl refl refl (queue_left old now c.args.s is.queue c.leave.ensures refl) (λ going. (is.going going, omega arith, going))
 
 pub returns-clause-did : goal.returns-clause-did
 returns-clause-did g c = λ h st.
     let s = g.T.Store in
     let store = c.args.store.now in
-    let old : Kept = record { sessions = c.memory.inside.sessions; waits = c.memory.inside.waits; scn = c.memory.inside.scn; stopped = c.memory.inside.stopped; copies = c.memory.inside.copies } in
-    let now : Kept = record { sessions = c.memory.inside.sessions; waits = c.leave.new.self; scn = c.memory.inside.scn; stopped = c.memory.inside.stopped; copies = c.memory.inside.copies } in
+    let old : Kept = record { sessions = c.memory.inside.sessions; waits = c.memory.inside.waits; scn = c.memory.inside.scn; stopped = c.memory.inside.stopped; copies = c.memory.inside.copies; dead = c.memory.inside.dead } in
+    let now : Kept = record { sessions = c.memory.inside.sessions; waits = c.leave.new.self; scn = c.memory.inside.scn; stopped = c.memory.inside.stopped; copies = c.memory.inside.copies; dead = c.memory.inside.dead } in
     let is : IsInStep s old store = subst (λ (k : Kept). IsInStep s k store) (sym c.memory.view_is) c.requires.step in
     let here : Stands s h (record { memory = old; store = store }) = subst (λ (k : Kept). Stands s h (record { memory = k; store = store })) (sym c.memory.view_is) st in
     let going = sym st.knows.stopped ∙ c.in_ok-check_number.ensures.going in
-    let left : now ≡ record old { waits = left_by c.args.s old.waits } = ap (λ (l : List Waiter). let k : Kept = record { sessions = c.memory.inside.sessions; waits = l; scn = c.memory.inside.scn; stopped = c.memory.inside.stopped; copies = c.memory.inside.copies } in k) c.leave.ensures in
+    let left : now ≡ record old { waits = left_by c.args.s old.waits } = ap (λ (l : List Waiter). let k : Kept = record { sessions = c.memory.inside.sessions; waits = l; scn = c.memory.inside.scn; stopped = c.memory.inside.stopped; copies = c.memory.inside.copies; dead = c.memory.inside.dead } in k) c.leave.ensures in
     subst (λ (k : Kept). Does s h (machine.Cancel c.args.s) machine.Done (record { memory = k; store = store }) (record { memory = now; store = store })) c.memory.view_is
     (does_cancelled s h c.args.s old now store here left st.told (laws_of g) (is.going (ap (λ (k : Kept). k.stopped) c.memory.view_is ∙ c.in_ok-check_number.ensures.going)) going (c.in_ok-check_number.ensures.granted h st.knows) (sym c.waits.ensures ∙ c.if-not-waits.false))

@@ -29,7 +29,7 @@ pub returns-in_err-pending-clause-did : goal.returns-in_err-pending-clause-did
 returns-in_err-pending-clause-did g c = λ h st.
     let s = g.T.Store in
     let store = c.args.store.now in
-    let inside : Kept = record { sessions = c.memory.inside.sessions; waits = c.memory.inside.waits; scn = c.memory.inside.scn; stopped = c.memory.inside.stopped; copies = c.memory.inside.copies } in
+    let inside : Kept = record { sessions = c.memory.inside.sessions; waits = c.memory.inside.waits; scn = c.memory.inside.scn; stopped = c.memory.inside.stopped; copies = c.memory.inside.copies; dead = c.memory.inside.dead } in
     let is : IsInStep s inside store = subst (λ (k : Kept). IsInStep s k store) (sym c.memory.view_is) c.requires.step in
     let first : first_ready inside.waits ≡ Some c.in_ok-s.s = sym c.ready.ensures ∙ c.in_ok-s.was in
     let at = ready_is_there c.in_ok-s.s inside.waits is.queue.once first in
@@ -39,10 +39,10 @@ pub do_write-outcome-requires : goal.do_write-outcome-requires
 do_write-outcome-requires g c =
     let s = g.T.Store in
     let store = c.args.store.now in
-    let inside : Kept = record { sessions = c.memory.inside.sessions; waits = c.memory.inside.waits; scn = c.memory.inside.scn; stopped = c.memory.inside.stopped; copies = c.memory.inside.copies } in
-    let now : Kept = record { sessions = c.memory.inside.sessions; waits = c.leave.new.self; scn = c.memory.inside.scn; stopped = c.memory.inside.stopped; copies = c.memory.inside.copies } in
+    let inside : Kept = record { sessions = c.memory.inside.sessions; waits = c.memory.inside.waits; scn = c.memory.inside.scn; stopped = c.memory.inside.stopped; copies = c.memory.inside.copies; dead = c.memory.inside.dead } in
+    let now : Kept = record { sessions = c.memory.inside.sessions; waits = c.leave.new.self; scn = c.memory.inside.scn; stopped = c.memory.inside.stopped; copies = c.memory.inside.copies; dead = c.memory.inside.dead } in
     let is : IsInStep s inside store = subst (λ (k : Kept). IsInStep s k store) (sym c.memory.view_is) c.requires.step in
-    record { step = in_step_queue s inside now store store is refl refl (queue_left inside now c.in_ok-s.s is.queue c.leave.ensures refl) (λ going. (is.going going, omega arith, going)) }
+    record { step = in_step_queue s inside now store store is refl refl refl (queue_left inside now c.in_ok-s.s is.queue c.leave.ensures refl) (λ going. (is.going going, omega arith, going)) }
 
 pub returns-clause-did : goal.returns-clause-did
 returns-clause-did g c = λ h st.
@@ -50,10 +50,10 @@ returns-clause-did g c = λ h st.
     let store = c.args.store.now in
     let w = c.in_ok-s.s in
     let p = c.in_ok-pending.pending in
-    let inside : Kept = record { sessions = c.memory.inside.sessions; waits = c.memory.inside.waits; scn = c.memory.inside.scn; stopped = c.memory.inside.stopped; copies = c.memory.inside.copies } in
-    let now : Kept = record { sessions = c.memory.inside.sessions; waits = c.leave.new.self; scn = c.memory.inside.scn; stopped = c.memory.inside.stopped; copies = c.memory.inside.copies } in
+    let inside : Kept = record { sessions = c.memory.inside.sessions; waits = c.memory.inside.waits; scn = c.memory.inside.scn; stopped = c.memory.inside.stopped; copies = c.memory.inside.copies; dead = c.memory.inside.dead } in
+    let now : Kept = record { sessions = c.memory.inside.sessions; waits = c.leave.new.self; scn = c.memory.inside.scn; stopped = c.memory.inside.stopped; copies = c.memory.inside.copies; dead = c.memory.inside.dead } in
     let here : Stands s h (record { memory = inside; store = store }) = subst (λ (k : Kept). Stands s h (record { memory = k; store = store })) (sym c.memory.view_is) st in
-    let left : now ≡ record inside { waits = left_by w inside.waits } = ap (λ (l : List Waiter). let k : Kept = record { sessions = c.memory.inside.sessions; waits = l; scn = c.memory.inside.scn; stopped = c.memory.inside.stopped; copies = c.memory.inside.copies } in k) c.leave.ensures in
+    let left : now ≡ record inside { waits = left_by w inside.waits } = ap (λ (l : List Waiter). let k : Kept = record { sessions = c.memory.inside.sessions; waits = l; scn = c.memory.inside.scn; stopped = c.memory.inside.stopped; copies = c.memory.inside.copies; dead = c.memory.inside.dead } in k) c.leave.ensures in
     let going : h.stopped ≡ false = sym here.knows.stopped ∙ c.if-memory.false in
     let knows : KnowsQueue h inside = here.knows.queue going in
     let first : first_ready h.queue ≡ Some w = ap first_ready (sym knows.waits) ∙ (sym c.ready.ensures ∙ c.in_ok-s.was) in
@@ -83,10 +83,10 @@ returns-clause-lost g c = λ h st who scn lost is.
     let store = c.args.store.now in
     let w = c.in_ok-s.s in
     let p = c.in_ok-pending.pending in
-    let inside : Kept = record { sessions = c.memory.inside.sessions; waits = c.memory.inside.waits; scn = c.memory.inside.scn; stopped = c.memory.inside.stopped; copies = c.memory.inside.copies } in
-    let now : Kept = record { sessions = c.memory.inside.sessions; waits = c.leave.new.self; scn = c.memory.inside.scn; stopped = c.memory.inside.stopped; copies = c.memory.inside.copies } in
+    let inside : Kept = record { sessions = c.memory.inside.sessions; waits = c.memory.inside.waits; scn = c.memory.inside.scn; stopped = c.memory.inside.stopped; copies = c.memory.inside.copies; dead = c.memory.inside.dead } in
+    let now : Kept = record { sessions = c.memory.inside.sessions; waits = c.leave.new.self; scn = c.memory.inside.scn; stopped = c.memory.inside.stopped; copies = c.memory.inside.copies; dead = c.memory.inside.dead } in
     let here : Stands s h (record { memory = inside; store = store }) = subst (λ (k : Kept). Stands s h (record { memory = k; store = store })) (sym c.memory.view_is) st in
-    let left : now ≡ record inside { waits = left_by w inside.waits } = ap (λ (l : List Waiter). let k : Kept = record { sessions = c.memory.inside.sessions; waits = l; scn = c.memory.inside.scn; stopped = c.memory.inside.stopped; copies = c.memory.inside.copies } in k) c.leave.ensures in
+    let left : now ≡ record inside { waits = left_by w inside.waits } = ap (λ (l : List Waiter). let k : Kept = record { sessions = c.memory.inside.sessions; waits = l; scn = c.memory.inside.scn; stopped = c.memory.inside.stopped; copies = c.memory.inside.copies; dead = c.memory.inside.dead } in k) c.leave.ensures in
     let going : h.stopped ≡ false = sym here.knows.stopped ∙ c.if-memory.false in
     let knows : KnowsQueue h inside = here.knows.queue going in
     let both = same_resumed w who c.do_write-outcome.result (Err (TooOld scn lost)) is in
@@ -99,10 +99,10 @@ returns-clause-tells g c = λ h st fine.
     let s = g.T.Store in
     let store = c.args.store.now in
     let w = c.in_ok-s.s in
-    let inside : Kept = record { sessions = c.memory.inside.sessions; waits = c.memory.inside.waits; scn = c.memory.inside.scn; stopped = c.memory.inside.stopped; copies = c.memory.inside.copies } in
-    let now : Kept = record { sessions = c.memory.inside.sessions; waits = c.leave.new.self; scn = c.memory.inside.scn; stopped = c.memory.inside.stopped; copies = c.memory.inside.copies } in
+    let inside : Kept = record { sessions = c.memory.inside.sessions; waits = c.memory.inside.waits; scn = c.memory.inside.scn; stopped = c.memory.inside.stopped; copies = c.memory.inside.copies; dead = c.memory.inside.dead } in
+    let now : Kept = record { sessions = c.memory.inside.sessions; waits = c.leave.new.self; scn = c.memory.inside.scn; stopped = c.memory.inside.stopped; copies = c.memory.inside.copies; dead = c.memory.inside.dead } in
     let here : Stands s h (record { memory = inside; store = store }) = subst (λ (k : Kept). Stands s h (record { memory = k; store = store })) (sym c.memory.view_is) st in
-    let left : now ≡ record inside { waits = left_by w inside.waits } = ap (λ (l : List Waiter). let k : Kept = record { sessions = c.memory.inside.sessions; waits = l; scn = c.memory.inside.scn; stopped = c.memory.inside.stopped; copies = c.memory.inside.copies } in k) c.leave.ensures in
+    let left : now ≡ record inside { waits = left_by w inside.waits } = ap (λ (l : List Waiter). let k : Kept = record { sessions = c.memory.inside.sessions; waits = l; scn = c.memory.inside.scn; stopped = c.memory.inside.stopped; copies = c.memory.inside.copies; dead = c.memory.inside.dead } in k) c.leave.ensures in
     c.do_write-outcome.ensures.tells (unqueued h w) (stands_left s h w inside now store here left) fine
 
 pub returns-clause-makes : goal.returns-clause-makes
@@ -111,10 +111,10 @@ returns-clause-makes g c = λ h st fine.
     let store = c.args.store.now in
     let w = c.in_ok-s.s in
     let p = c.in_ok-pending.pending in
-    let inside : Kept = record { sessions = c.memory.inside.sessions; waits = c.memory.inside.waits; scn = c.memory.inside.scn; stopped = c.memory.inside.stopped; copies = c.memory.inside.copies } in
-    let now : Kept = record { sessions = c.memory.inside.sessions; waits = c.leave.new.self; scn = c.memory.inside.scn; stopped = c.memory.inside.stopped; copies = c.memory.inside.copies } in
+    let inside : Kept = record { sessions = c.memory.inside.sessions; waits = c.memory.inside.waits; scn = c.memory.inside.scn; stopped = c.memory.inside.stopped; copies = c.memory.inside.copies; dead = c.memory.inside.dead } in
+    let now : Kept = record { sessions = c.memory.inside.sessions; waits = c.leave.new.self; scn = c.memory.inside.scn; stopped = c.memory.inside.stopped; copies = c.memory.inside.copies; dead = c.memory.inside.dead } in
     let here : Stands s h (record { memory = inside; store = store }) = subst (λ (k : Kept). Stands s h (record { memory = k; store = store })) (sym c.memory.view_is) st in
-    let left : now ≡ record inside { waits = left_by w inside.waits } = ap (λ (l : List Waiter). let k : Kept = record { sessions = c.memory.inside.sessions; waits = l; scn = c.memory.inside.scn; stopped = c.memory.inside.stopped; copies = c.memory.inside.copies } in k) c.leave.ensures in
+    let left : now ≡ record inside { waits = left_by w inside.waits } = ap (λ (l : List Waiter). let k : Kept = record { sessions = c.memory.inside.sessions; waits = l; scn = c.memory.inside.scn; stopped = c.memory.inside.stopped; copies = c.memory.inside.copies; dead = c.memory.inside.dead } in k) c.leave.ensures in
     let going : h.stopped ≡ false = sym here.knows.stopped ∙ c.if-memory.false in
     let new = c.do_write-outcome.new.store in
     let made = c.do_write-outcome.ensures.makes (unqueued h w) (stands_left s h w inside now store here left) fine in (

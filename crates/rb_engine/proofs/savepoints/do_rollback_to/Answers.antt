@@ -58,8 +58,8 @@ pub returns-in-None-clause-step : goal.returns-in-None-clause-step
 returns-in-None-clause-step g c =
     let s = g.T.Store in
     let store = c.args.store.now in
-    let inside : Kept = record { sessions = c.memory.inside.sessions; waits = c.memory.inside.waits; scn = c.memory.inside.scn; stopped = c.memory.inside.stopped; copies = c.memory.inside.copies } in
-    let now : Kept = record { sessions = c.rollback_to.new.self; waits = c.memory.inside.waits; scn = c.memory.inside.scn; stopped = c.memory.inside.stopped; copies = c.memory.inside.copies } in
+    let inside : Kept = record { sessions = c.memory.inside.sessions; waits = c.memory.inside.waits; scn = c.memory.inside.scn; stopped = c.memory.inside.stopped; copies = c.memory.inside.copies; dead = c.memory.inside.dead } in
+    let now : Kept = record { sessions = c.rollback_to.new.self; waits = c.memory.inside.waits; scn = c.memory.inside.scn; stopped = c.memory.inside.stopped; copies = c.memory.inside.copies; dead = c.memory.inside.dead } in
     let is : IsInStep s inside store = subst (λ (k : Kept). IsInStep s k store) (sym c.memory.view_is) c.requires.step in
     let k = kept_at inside.sessions c.args.s in
     let name = name_text c.args.name.now in
@@ -67,16 +67,16 @@ returns-in-None-clause-step g c =
     let first = found.0.kept in
     let fit = fit_rolled_to (s.shape_of store) name first k (fit_at s inside store is c.args.s) in
     let moved : now.sessions ≡ with_kept inside.sessions c.args.s (rolled_to name first k) = c.rollback_to.ensures ∙ ap (λ (o : Option Savepoint). with_kept inside.sessions c.args.s (back_at name o k)) found.1 in
-    in_step_moved s inside now store store is refl c.args.s c.in_ok-check_session.ensures.session (rolled_to name first k) fit moved
-    (queue_moved s inside now store store is refl c.args.s c.in_ok-check_session.ensures.session (rolled_to name first k) fit moved refl (inl refl))
-    (λ going. (is.going going, few_less s inside now store store is refl c.args.s c.in_ok-check_session.ensures.session (rolled_to name first k) fit moved going (omega arith)))
+    in_step_moved s inside now store store is refl refl c.args.s c.in_ok-check_session.ensures.session (rolled_to name first k) fit moved
+    (queue_moved s inside now store store is refl refl c.args.s c.in_ok-check_session.ensures.session (rolled_to name first k) fit moved refl (inl refl))
+    (λ going. (is.going going, few_less s inside now store store is refl refl c.args.s c.in_ok-check_session.ensures.session (rolled_to name first k) fit moved going (omega arith)))
 
 pub returns-in-None-clause-did : goal.returns-in-None-clause-did
 returns-in-None-clause-did g c = λ h st.
     let s = g.T.Store in
     let store = c.args.store.now in
-    let inside : Kept = record { sessions = c.memory.inside.sessions; waits = c.memory.inside.waits; scn = c.memory.inside.scn; stopped = c.memory.inside.stopped; copies = c.memory.inside.copies } in
-    let now : Kept = record { sessions = c.rollback_to.new.self; waits = c.memory.inside.waits; scn = c.memory.inside.scn; stopped = c.memory.inside.stopped; copies = c.memory.inside.copies } in
+    let inside : Kept = record { sessions = c.memory.inside.sessions; waits = c.memory.inside.waits; scn = c.memory.inside.scn; stopped = c.memory.inside.stopped; copies = c.memory.inside.copies; dead = c.memory.inside.dead } in
+    let now : Kept = record { sessions = c.rollback_to.new.self; waits = c.memory.inside.waits; scn = c.memory.inside.scn; stopped = c.memory.inside.stopped; copies = c.memory.inside.copies; dead = c.memory.inside.dead } in
     let is : IsInStep s inside store = subst (λ (k : Kept). IsInStep s k store) (sym c.memory.view_is) c.requires.step in
     let here : Stands s h (record { memory = inside; store = store }) = subst (λ (k : Kept). Stands s h (record { memory = k; store = store })) (sym c.memory.view_is) st in
     let there = c.in_ok-check_session.ensures.session in
@@ -97,7 +97,7 @@ returns-in-None-clause-did g c = λ h st.
     subst (λ (k : Kept). Does s h call machine.Done (record { memory = k; store = store }) (record { memory = now; store = store })) c.memory.view_is
     (does_session s st.told (laws_of g) h call machine.Done c.args.s session (record { memory = inside; store = store }) (record { memory = now; store = store }) here going
     (there.0, (let n = st.knows.sixteen in omega (arith, there, n))) own
-    (MayAnswer.later (name_tests h call) (c.in_ok-check_session.ensures.granted h st.knows) refl (rw at refl)) (p, at, refl) (p, at, (let none = ap (λ (l : List Change). length l) empty in omega (arith, none))) (λ s t k a is done. cc) refl refl refl refl refl
+    (MayAnswer.later (name_tests h call) (c.in_ok-check_session.ensures.granted h st.knows) refl (rw at refl)) (p, at, refl) (p, at, (let none = ap (λ (l : List Change). length l) empty in omega (arith, none))) (λ s t k a is done. cc) refl refl refl refl refl refl (λ k is. cc)
     (ap (λ (l : List KeptSession). map (λ k. k.asked) l) moved ∙ all_asked inside.sessions (c.args.s - 1) (rolled_to name p.kept k) refl)
     (λ xids stand knows. subst (Remembers (next.rolled_to h c.args.s name p.kept) xids (env_of h.shape (s.blocks store))) (sym moved)
     (cut_remembered h xids (env_of h.shape (s.blocks store)) (env_of h.shape (s.blocks store)) c.args.s name p.kept there.0 (λ u t owns. refl) inside.sessions there.1 knows))
@@ -112,7 +112,7 @@ pub returns-in-None-clause-makes : goal.returns-in-None-clause-makes
 returns-in-None-clause-makes g c = λ h st fine.
     let s = g.T.Store in
     let store = c.args.store.now in
-    let inside : Kept = record { sessions = c.memory.inside.sessions; waits = c.memory.inside.waits; scn = c.memory.inside.scn; stopped = c.memory.inside.stopped; copies = c.memory.inside.copies } in
+    let inside : Kept = record { sessions = c.memory.inside.sessions; waits = c.memory.inside.waits; scn = c.memory.inside.scn; stopped = c.memory.inside.stopped; copies = c.memory.inside.copies; dead = c.memory.inside.dead } in
     let old : EngineView _ = record { memory = inside; store = store } in
     let here : Stands s h old = subst (λ (k : Kept). Stands s h (record { memory = k; store = store })) (sym c.memory.view_is) st in
     let there = c.in_ok-check_session.ensures.session in

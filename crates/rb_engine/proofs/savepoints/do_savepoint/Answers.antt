@@ -76,22 +76,22 @@ pub returns-clause-step : goal.returns-clause-step
 returns-clause-step g c =
     let s = g.T.Store in
     let store = c.args.store.now in
-    let old : Kept = record { sessions = c.memory.inside.sessions; waits = c.memory.inside.waits; scn = c.memory.inside.scn; stopped = c.memory.inside.stopped; copies = c.memory.inside.copies } in
-    let now : Kept = record { sessions = c.set_savepoint.new.self; waits = c.memory.inside.waits; scn = c.memory.inside.scn; stopped = c.memory.inside.stopped; copies = c.memory.inside.copies } in
+    let old : Kept = record { sessions = c.memory.inside.sessions; waits = c.memory.inside.waits; scn = c.memory.inside.scn; stopped = c.memory.inside.stopped; copies = c.memory.inside.copies; dead = c.memory.inside.dead } in
+    let now : Kept = record { sessions = c.set_savepoint.new.self; waits = c.memory.inside.waits; scn = c.memory.inside.scn; stopped = c.memory.inside.stopped; copies = c.memory.inside.copies; dead = c.memory.inside.dead } in
     let is : IsInStep s old store = subst (λ (k : Kept). IsInStep s k store) (sym c.memory.view_is) c.requires.step in
     let k = kept_at c.memory.inside.sessions c.args.s in
     let name = name_text c.args.name.now in
     let fit = fit_savepoint (s.shape_of store) name k (fit_at s old store is c.args.s) in
-    in_step_moved s old now store store is refl c.args.s c.in_ok-check_session.ensures.session (with_savepoint name k) fit c.set_savepoint.ensures
-    (queue_moved s old now store store is refl c.args.s c.in_ok-check_session.ensures.session (with_savepoint name k) fit c.set_savepoint.ensures refl (inl refl))
-    (λ going. (is.going going, few_less s old now store store is refl c.args.s c.in_ok-check_session.ensures.session (with_savepoint name k) fit c.set_savepoint.ensures going (omega arith)))
+    in_step_moved s old now store store is refl refl c.args.s c.in_ok-check_session.ensures.session (with_savepoint name k) fit c.set_savepoint.ensures
+    (queue_moved s old now store store is refl refl c.args.s c.in_ok-check_session.ensures.session (with_savepoint name k) fit c.set_savepoint.ensures refl (inl refl))
+    (λ going. (is.going going, few_less s old now store store is refl refl c.args.s c.in_ok-check_session.ensures.session (with_savepoint name k) fit c.set_savepoint.ensures going (omega arith)))
 
 pub returns-clause-did : goal.returns-clause-did
 returns-clause-did g c = λ h st.
     let s = g.T.Store in
     let store = c.args.store.now in
-    let old : Kept = record { sessions = c.memory.inside.sessions; waits = c.memory.inside.waits; scn = c.memory.inside.scn; stopped = c.memory.inside.stopped; copies = c.memory.inside.copies } in
-    let now : Kept = record { sessions = c.set_savepoint.new.self; waits = c.memory.inside.waits; scn = c.memory.inside.scn; stopped = c.memory.inside.stopped; copies = c.memory.inside.copies } in
+    let old : Kept = record { sessions = c.memory.inside.sessions; waits = c.memory.inside.waits; scn = c.memory.inside.scn; stopped = c.memory.inside.stopped; copies = c.memory.inside.copies; dead = c.memory.inside.dead } in
+    let now : Kept = record { sessions = c.set_savepoint.new.self; waits = c.memory.inside.waits; scn = c.memory.inside.scn; stopped = c.memory.inside.stopped; copies = c.memory.inside.copies; dead = c.memory.inside.dead } in
     let here : Stands s h (record { memory = old; store = store }) = subst (λ (k : Kept). Stands s h (record { memory = k; store = store })) (sym c.memory.view_is) st in
     let there = c.in_ok-check_session.ensures.session in
     let going = sym st.knows.stopped ∙ c.in_ok-check_session.ensures.going in
@@ -105,7 +105,7 @@ returns-clause-did g c = λ h st.
     subst (λ (k : Kept). Does s h call machine.Done (record { memory = k; store = store }) (record { memory = now; store = store })) c.memory.view_is
     (does_session s st.told (laws_of g) h call machine.Done c.args.s (record (session_of h c.args.s) { savepoints = savepoints }) (record { memory = old; store = store }) (record { memory = now; store = store }) here going
     (there.0, (let n = st.knows.sixteen in omega (arith, there, n))) refl
-    (MayAnswer.later (name_tests h call) (c.in_ok-check_session.ensures.granted h st.knows) refl (rw (lt-leb SAVEPOINTS (length (without_savepoint name (session_of h c.args.s).savepoints)) few) refl)) refl refl (λ s t k a is done. cc) refl refl refl refl refl
+    (MayAnswer.later (name_tests h call) (c.in_ok-check_session.ensures.granted h st.knows) refl (rw (lt-leb SAVEPOINTS (length (without_savepoint name (session_of h c.args.s).savepoints)) few) refl)) refl refl (λ s t k a is done. cc) refl refl refl refl refl refl (λ k is. cc)
     (ap (λ (l : List KeptSession). map (λ k. k.asked) l) c.set_savepoint.ensures ∙ all_asked old.sessions (c.args.s - 1) (with_savepoint name (kept_at old.sessions c.args.s)) refl)
     (λ xids stand is. subst (Remembers (next.with_savepoints h c.args.s savepoints) xids (env_of h.shape (s.blocks store))) (sym c.set_savepoint.ensures) (savepoint_remembered h xids (env_of h.shape (s.blocks store)) old.sessions c.args.s name is there.0 there.1))
     (no_logs s store ((subst (λ (k : Kept). IsInStep s k store) (sym c.memory.view_is) c.requires.step).going (ap (λ (k : Kept). k.stopped) c.memory.view_is ∙ c.in_ok-check_session.ensures.going)))

@@ -30,12 +30,12 @@ pub returns-in-Ok-clause-step : goal.returns-in-Ok-clause-step
 returns-in-Ok-clause-step g c =
     let s = g.T.Store in
     let store = c.args.store.now in
-    let inside : Kept = record { sessions = c.memory.inside.sessions; waits = c.memory.inside.waits; scn = c.memory.inside.scn; stopped = c.memory.inside.stopped; copies = c.memory.inside.copies } in
+    let inside : Kept = record { sessions = c.memory.inside.sessions; waits = c.memory.inside.waits; scn = c.memory.inside.scn; stopped = c.memory.inside.stopped; copies = c.memory.inside.copies; dead = c.memory.inside.dead } in
     let name = name_text c.args.name.now in
     let found = kept_some (savepoint_named name (kept_at inside.sessions c.args.s).savepoints) c.args.kept (ap (λ (k : Kept). kept_by (savepoint_named name (kept_at k.sessions c.args.s).savepoints)) c.memory.view_is ∙ c.requires.named) in
     let p = found.0 in
     let new = c.put_back.new.store in
-    let now : Kept = record { sessions = c.rollback_to.new.self; waits = c.memory.inside.waits; scn = c.memory.inside.scn; stopped = c.memory.inside.stopped; copies = c.memory.inside.copies } in
+    let now : Kept = record { sessions = c.rollback_to.new.self; waits = c.memory.inside.waits; scn = c.memory.inside.scn; stopped = c.memory.inside.stopped; copies = c.memory.inside.copies; dead = c.memory.inside.dead } in
     let is : IsInStep s inside store = subst (λ (k : Kept). IsInStep s k store) (sym c.memory.view_is) c.requires.step in
     let k = kept_at inside.sessions c.args.s in
     let fit = fit_rolled_to (s.shape_of store) name p.kept k (fit_at s inside store is c.args.s) in
@@ -45,15 +45,15 @@ returns-in-Ok-clause-step g c =
     let length_is = c.session.ensures.length in
     let back = c.saturating_sub-count.ensures in
     let kept_is = found.2 in
-    in_step_moved s inside now store new is shape c.args.s c.requires.session (rolled_to name p.kept k) fit moved
-    (queue_moved s inside now store new is shape c.args.s c.requires.session (rolled_to name p.kept k) fit moved refl (inl refl))
-    (λ going. (c.in-Ok.ensures.failed, few_less s inside now store new is shape c.args.s c.requires.session (rolled_to name p.kept k) fit moved going (omega (arith, lsn, length_is, back, kept_is))))
+    in_step_moved s inside now store new is shape refl c.args.s c.requires.session (rolled_to name p.kept k) fit moved
+    (queue_moved s inside now store new is shape refl c.args.s c.requires.session (rolled_to name p.kept k) fit moved refl (inl refl))
+    (λ going. (c.in-Ok.ensures.failed, few_less s inside now store new is shape refl c.args.s c.requires.session (rolled_to name p.kept k) fit moved going (omega (arith, lsn, length_is, back, kept_is))))
 
 pub returns-in-Ok-clause-did : goal.returns-in-Ok-clause-did
 returns-in-Ok-clause-did g c = λ h st.
     let s = g.T.Store in
     let store = c.args.store.now in
-    let inside : Kept = record { sessions = c.memory.inside.sessions; waits = c.memory.inside.waits; scn = c.memory.inside.scn; stopped = c.memory.inside.stopped; copies = c.memory.inside.copies } in
+    let inside : Kept = record { sessions = c.memory.inside.sessions; waits = c.memory.inside.waits; scn = c.memory.inside.scn; stopped = c.memory.inside.stopped; copies = c.memory.inside.copies; dead = c.memory.inside.dead } in
     let name = name_text c.args.name.now in
     let found = kept_some (savepoint_named name (kept_at inside.sessions c.args.s).savepoints) c.args.kept (ap (λ (k : Kept). kept_by (savepoint_named name (kept_at k.sessions c.args.s).savepoints)) c.memory.view_is ∙ c.requires.named) in
     let p = found.0 in
@@ -68,20 +68,20 @@ returns-in-Ok-clause-did g c = λ h st.
     let who = who_in s st.told (laws_of g) h old c.args.s c.args.xid here going there own in
     let id = own_id s st.told (laws_of g) h old c.args.s c.args.xid here going there own in
     let back : c.saturating_sub-count.result ≡ length (session_own h c.args.s) - p.kept = (let a = c.saturating_sub-count.ensures in let b = c.session.ensures.length in let e = found.2 in omega (arith, a, b, e, count)) in
-    let new : EngineView _ = record { memory = record { sessions = c.rollback_to.new.self; waits = c.memory.inside.waits; scn = c.memory.inside.scn; stopped = c.memory.inside.stopped; copies = c.memory.inside.copies }; store = c.put_back.new.store } in
+    let new : EngineView _ = record { memory = record { sessions = c.rollback_to.new.self; waits = c.memory.inside.waits; scn = c.memory.inside.scn; stopped = c.memory.inside.stopped; copies = c.memory.inside.copies; dead = c.memory.inside.dead }; store = c.put_back.new.store } in
     let k = kept_at inside.sessions c.args.s in
     let moved : c.rollback_to.new.self ≡ with_kept inside.sessions c.args.s (rolled_to name p.kept k) = c.rollback_to.ensures ∙ ap (λ (o : Option Savepoint). with_kept inside.sessions c.args.s (back_at name o k)) found.1 in
     let at : savepoint_of h c.args.s name ≡ Some p = ap (savepoint_named name) (sym (held.remembers.each c.args.s there.0 there.1).savepoints) ∙ found.1 in
     subst (λ (k : Kept). Does s h (machine.RollbackTo c.args.s name) machine.Done (record { memory = k; store = store }) new) c.memory.view_is
     (does_cut s st.told (laws_of g) h old c.args.s c.args.xid here going there own new c.put_back.ensures.same out name p at
     (c.in-Ok.ensures.puts_back st.told h held.xids c.args.s p.kept st.shape held.holds who.0 who.1 id going back)
-    c.in-Ok.ensures.failed moved refl refl refl refl)
+    c.in-Ok.ensures.failed moved refl refl refl refl refl)
 
 pub returns-in-Err-clause-did : goal.returns-in-Err-clause-did
 returns-in-Err-clause-did g c = rw c.fail.ensures.answer (λ h st.
     let s = g.T.Store in
     let store = c.args.store.now in
-    let inside : Kept = record { sessions = c.memory.inside.sessions; waits = c.memory.inside.waits; scn = c.memory.inside.scn; stopped = c.memory.inside.stopped; copies = c.memory.inside.copies } in
+    let inside : Kept = record { sessions = c.memory.inside.sessions; waits = c.memory.inside.waits; scn = c.memory.inside.scn; stopped = c.memory.inside.stopped; copies = c.memory.inside.copies; dead = c.memory.inside.dead } in
     let name = name_text c.args.name.now in
     let found = kept_some (savepoint_named name (kept_at inside.sessions c.args.s).savepoints) c.args.kept (ap (λ (k : Kept). kept_by (savepoint_named name (kept_at k.sessions c.args.s).savepoints)) c.memory.view_is ∙ c.requires.named) in
     let p = found.0 in
@@ -106,7 +106,7 @@ pub returns-in-Ok-clause-makes : goal.returns-in-Ok-clause-makes
 returns-in-Ok-clause-makes g c = λ h st fine.
     let s = g.T.Store in
     let store = c.args.store.now in
-    let inside : Kept = record { sessions = c.memory.inside.sessions; waits = c.memory.inside.waits; scn = c.memory.inside.scn; stopped = c.memory.inside.stopped; copies = c.memory.inside.copies } in
+    let inside : Kept = record { sessions = c.memory.inside.sessions; waits = c.memory.inside.waits; scn = c.memory.inside.scn; stopped = c.memory.inside.stopped; copies = c.memory.inside.copies; dead = c.memory.inside.dead } in
     let old : EngineView _ = record { memory = inside; store = store } in
     let here : Stands s h old = subst (λ (k : Kept). Stands s h (record { memory = k; store = store })) (sym c.memory.view_is) st in
     let own : (kept_at inside.sessions c.args.s).own ≡ Some c.args.xid = ap (λ (k : Kept). (kept_at k.sessions c.args.s).own) c.memory.view_is ∙ c.requires.own in

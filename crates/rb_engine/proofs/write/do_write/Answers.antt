@@ -167,7 +167,7 @@ returns-in-Ok-clause-did g c = λ h st.
     let same = c.in_ok-check_late.ensures.stops ∙ c.in_ok-on.ensures.stops in
     let mid : EngineView _ = record { memory = c.check_late.new.memory; store = c.check_late.new.store } in
     let own = c.session.ensures.own ∙ ap (λ (m : Kept). (kept_at m.sessions c.args.s).own) c.memory.view_is in
-    let new : EngineView _ = record { memory = record { sessions = c.wrote.new.self; waits = c.memory.inside.waits; scn = c.memory.inside.scn; stopped = c.memory.inside.stopped; copies = c.memory.inside.copies }; store = c.write_step.new.store } in
+    let new : EngineView _ = record { memory = record { sessions = c.wrote.new.self; waits = c.memory.inside.waits; scn = c.memory.inside.scn; stopped = c.memory.inside.stopped; copies = c.memory.inside.copies; dead = c.memory.inside.dead }; store = c.write_step.new.store } in
     let logs = c.in-Ok.ensures.logs.1 in
     let inside = c.memory.view_is in
     made_did s st.told (laws_of g) h c.args.memory.now c.args.store.now st going c.args.s c.args.table c.args.key (action_by c.args.op) c.in_ok-check_write.ensures.session first held c.in_ok-on.ensures.stops loads
@@ -188,7 +188,7 @@ returns-in-Ok-clause-tells g c = λ h st fine.
     let same = c.in_ok-check_late.ensures.stops ∙ c.in_ok-on.ensures.stops in
     let mid : EngineView _ = record { memory = c.check_late.new.memory; store = c.check_late.new.store } in
     let own = c.session.ensures.own ∙ ap (λ (m : Kept). (kept_at m.sessions c.args.s).own) c.memory.view_is in
-    let new : EngineView _ = record { memory = record { sessions = c.wrote.new.self; waits = c.memory.inside.waits; scn = c.memory.inside.scn; stopped = c.memory.inside.stopped; copies = c.memory.inside.copies }; store = c.write_step.new.store } in
+    let new : EngineView _ = record { memory = record { sessions = c.wrote.new.self; waits = c.memory.inside.waits; scn = c.memory.inside.scn; stopped = c.memory.inside.stopped; copies = c.memory.inside.copies; dead = c.memory.inside.dead }; store = c.write_step.new.store } in
     let logs = c.in-Ok.ensures.logs.1 in
     made_tells s st.told (laws_of g) h c.args.memory.now c.args.store.now st going c.args.s c.args.table c.args.key (action_by c.args.op) c.in_ok-check_write.ensures.session first held c.in_ok-on.ensures.stops loads
     (λ xids stand shape knows. subst (λ (o : Option ℕ). OtherHolds h c.args.s c.args.table c.args.key o) c.in_default.is (c.in_ok-on.ensures.other st.told h xids stand shape knows st.knows.sixteen))
@@ -205,7 +205,7 @@ returns-in-Ok-clause-makes g c = λ h st fine.
     let same = c.in_ok-check_late.ensures.stops ∙ c.in_ok-on.ensures.stops in
     let mid : EngineView _ = record { memory = c.check_late.new.memory; store = c.check_late.new.store } in
     let own = c.session.ensures.own ∙ ap (λ (m : Kept). (kept_at m.sessions c.args.s).own) c.memory.view_is in
-    let new : EngineView _ = record { memory = record { sessions = c.wrote.new.self; waits = c.memory.inside.waits; scn = c.memory.inside.scn; stopped = c.memory.inside.stopped; copies = c.memory.inside.copies }; store = c.write_step.new.store } in
+    let new : EngineView _ = record { memory = record { sessions = c.wrote.new.self; waits = c.memory.inside.waits; scn = c.memory.inside.scn; stopped = c.memory.inside.stopped; copies = c.memory.inside.copies; dead = c.memory.inside.dead }; store = c.write_step.new.store } in
     let logs = c.in-Ok.ensures.logs.1 in
     made_makes s st.told (laws_of g) h c.args.memory.now c.args.store.now st going c.args.s c.args.table c.args.key (action_by c.args.op) c.in_ok-check_write.ensures.session first held c.in_ok-on.ensures.stops loads
     (λ xids stand shape knows. subst (λ (o : Option ℕ). OtherHolds h c.args.s c.args.table c.args.key o) c.in_default.is (c.in_ok-on.ensures.other st.told h xids stand shape knows st.knows.sixteen))
@@ -215,7 +215,7 @@ pub returns-in-Ok-clause-step : goal.returns-in-Ok-clause-step
 returns-in-Ok-clause-step g c =
     let s = g.T.Store in
     let kept = c.args.memory.now in
-    let now : Kept = record { sessions = c.wrote.new.self; waits = c.memory.inside.waits; scn = c.memory.inside.scn; stopped = c.memory.inside.stopped; copies = c.memory.inside.copies } in
+    let now : Kept = record { sessions = c.wrote.new.self; waits = c.memory.inside.waits; scn = c.memory.inside.scn; stopped = c.memory.inside.stopped; copies = c.memory.inside.copies; dead = c.memory.inside.dead } in
     let old = c.args.store.now in
     let new = c.write_step.new.store in
     let u = c.args.s in
@@ -234,9 +234,9 @@ returns-in-Ok-clause-step g c =
     let number = logs.1.number refl in
     let loaded = before.number refl in
     let one = few_group logs.0 in
-    in_step_moved s kept now old new step shape u there k fit moved
-    (queue_moved s kept now old new step shape u there k fit moved refl (inl waits))
-    (λ _. (logs.1.failed, few_wrote s kept now old new step shape u there k fit moved (omega (arith, number, loaded, one, young)) fit.small))
+    in_step_moved s kept now old new step shape refl u there k fit moved
+    (queue_moved s kept now old new step shape refl u there k fit moved refl (inl waits))
+    (λ _. (logs.1.failed, few_wrote s kept now old new step shape refl u there k fit moved (omega (arith, number, loaded, one, young)) fit.small))
 
 pub returns-in-Ok-clause-holds_back : goal.returns-in-Ok-clause-holds_back
 returns-in-Ok-clause-holds_back g c = λ fine.
