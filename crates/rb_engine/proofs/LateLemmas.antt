@@ -171,6 +171,7 @@ attempt_not_old attempts.NotFound scn lost is = cc
 attempt_not_old attempts.BlockFull scn lost is = cc
 attempt_not_old attempts.SlotsFull scn lost is = cc
 attempt_not_old (attempts.RollbackFull seg since) scn lost is = cc
+attempt_not_old (attempts.NoSlot seg) scn lost is = cc
 attempt_not_old attempts.WornOut scn lost is = cc
 
 pub young_not_old : (r : Result Wrote Refusal) → IfErr r NotOld → (scn lost : ℕ) → r ≡ Err (refusals.TooOld scn lost) → ⊥

@@ -1,5 +1,6 @@
 pub mod ActivityLemmas
 pub mod AheadLemmas
+pub mod BehindLemmas
 pub mod CleanLemmas
 pub mod CopyLemmas
 pub mod DoesLemmas
@@ -8,8 +9,10 @@ pub mod FewLemmas
 pub mod FinishLemmas
 pub mod GetLemmas
 pub mod LateLemmas
+pub mod LedLemmas
 pub mod MakesLemmas
 pub mod ModeLemmas
+pub mod OnceLemmas
 pub mod OpenLemmas
 pub mod QueueLemmas
 pub mod RetainsLemmas

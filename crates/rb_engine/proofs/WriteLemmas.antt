@@ -62,6 +62,7 @@ failed_is faults.NotFound = refl
 failed_is faults.BlockFull = refl
 failed_is faults.SlotsFull = refl
 failed_is (faults.RollbackFull seg since) = refl
+failed_is (faults.NoSlot seg) = refl
 failed_is faults.WornOut = refl
 
 pub the_failure : (fault : AttemptFault) → is_disk_fault (refusal_of fault) ≡ true → refusal_of fault ≡ DiskFault
@@ -230,10 +231,10 @@ module _ {S : Type 0} (s : Ghosts S) (kept now : Kept) (old new : S) (is : IsInS
 
 -- Some session in the table has the id of the transaction that holds a key.
 module _ (h : State) (xids : List Xid) (blocks : List (List ℕ)) (sessions : List KeptSession) (knows : Remembers h xids (env_of h.shape blocks) sessions) (table key : ℕ) (x : Xid) (held : IsHolder h (env_of h.shape blocks) table key (Some x)) where
-  pub holder_there : BlocksStand h xids blocks → length h.sessions ≡ SESSIONS → ((u : ℕ) → 1 ≤ u → u ≤ SESSIONS → (kept_at sessions u).own ≢ Some x) → ⊥
-  holder_there stand sixteen none =
+  pub holder_there : BlocksStand h xids blocks → ((u : ℕ) → holder h table key ≡ Some u → u ≤ SESSIONS) → ((u : ℕ) → 1 ≤ u → u ≤ SESSIONS → (kept_at sessions u).own ≢ Some x) → ⊥
+  holder_there stand living none =
       let range = stand.tell.owner_there held.0 held.1 held.3 in
-      let up : held.0 ≤ SESSIONS = omega (arith, range.1, sixteen) in
+      let up : held.0 ≤ SESSIONS = living held.0 held.2 in
       none held.0 range.0 up ((knows.each held.0 range.0 up).id.owns held.1 held.3 ∙ ap (λ (y : Xid). Some y) (sym held.4))
 
   -- and no other one has it

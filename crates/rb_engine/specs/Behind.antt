@@ -23,7 +23,7 @@ use Rattle.rb_model.specs.State.{State, asked_of}
 use Rattle.rb_model.specs.declared.refusal.Refusal.{Refusal}
 use Rattle.rb_model.specs.declared.refusal.Refusal.TheVariants.{RollbackFull, TooOld}
 use Rattle.rb_model.specs.declared.wrote.Wrote.{Wrote}
-use Rattle.rb_rollback.specs.Backs.{Fails}
+use Rattle.rb_rollback.specs.Backs.{Fails, SameStore}
 
 -- Calls led an engine from one state to another, in which some of the dead are gone, whole or in part: by so many
 -- groups, each of which a crash may leave with those before it.
@@ -31,6 +31,7 @@ pub record Led {S : Type 0} (s : Ghosts S) (h h2 : State) (old new : EngineView 
   pub rest : KeepsRest h h2
   pub fewer : dead_owed h2 ≤ dead_owed h
   pub stands : Stands s h2 new
+  pub same : SameStore s old.store new.store
   pub lsn : s.lsn new.store ≡ s.lsn old.store + cleared_by h h2
   pub back : BackBy h.shape (cleared_by h h2) (s.blocks old.store) (s.blocks new.store)
   pub survives : (before : Option Call) → h.stopped ≡ false → s.keeps

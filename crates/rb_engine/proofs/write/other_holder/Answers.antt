@@ -9,13 +9,13 @@ use Rattle.rb_engine.proofs.write.other_holder.Goals as goal
 use Rattle.rb_engine.proofs.write.other_holder.Goals.{in-Some, in_default-2, in_default}
 
 pub returns-in-Ok-None-clause-other : goal.returns-in-Ok-None-clause-other
-returns-in-Ok-None-clause-other g c = λ told h xids stand shape knows sixteen.
+returns-in-Ok-None-clause-other g c = λ told h xids stand shape knows living.
     let s = g.T.Store in
     let held = holder_found s c.args.store.now h xids c.args.table c.args.key c.in-Ok-None.field-0 c.requires.table.0 c.requires.table.1 (c.in-Ok-None.ensures.holder told) stand shape in
     none_holds h c.args.s c.args.table c.args.key (subst (λ (o : Option Xid). IsHolder h (env_of h.shape (s.blocks c.args.store.now)) c.args.table c.args.key o) c.in-Ok-None.field-0-is held)
 
 pub returns-clause-other : goal.returns-clause-other
-returns-clause-other g c = λ told h xids stand shape knows sixteen.
+returns-clause-other g c = λ told h xids stand shape knows living.
     let s = g.T.Store in
     let blocks = s.blocks c.args.store.now in
     let x = c.in-Ok-Some.xid in
@@ -35,5 +35,5 @@ returns-clause-other g c = λ told h xids stand shape knows sixteen.
           let its = w.in-Some.ensures.found in
           let only = holder_only h xids blocks sessions knows c.args.table c.args.key x held on its.0 its.1 (inside on its.2) in
           rw w.result-is (own_holds h c.args.s c.args.table c.args.key held.0 held.2 (only ∙ w.if-on-s.false))
-      | in_default w ↦ absurd (holder_there h xids blocks sessions knows c.args.table c.args.key x held stand sixteen (λ u low high own. w.in_default.ensures.none u low high (subst (λ (l : List KeptSession). (kept_at l u).own ≡ Some x) (sym table) own)))
+      | in_default w ↦ absurd (holder_there h xids blocks sessions knows c.args.table c.args.key x held stand living (λ u low high own. w.in_default.ensures.none u low high (subst (λ (l : List KeptSession). (kept_at l u).own ≡ Some x) (sym table) own)))
     ]
