@@ -60,7 +60,7 @@ cleared_living h g i o within at =
     let seg : (16 * g + i) / 16 ≡ g = omega (arith, within) in
     let slot : (16 * g + i) % 16 ≡ i = omega (arith, within) in
     let here : owner_at (segment_cleared g h) (16 * g + i) ≡ Some o =
-        ap (λ (z : ℕ). slot_owner (book_at (segment_cleared g h).books z) ((16 * g + i) % 16)) seg ∙ (ap (slot_owner (book_at (segment_cleared g h).books g)) slot ∙ at) in
+    ap (λ (z : ℕ). slot_owner (book_at (segment_cleared g h).books z) ((16 * g + i) % 16)) seg ∙ (ap (slot_owner (book_at (segment_cleared g h).books g)) slot ∙ at) in
     none_living o (sym (ap dead_owner here) ∙ cleared_none h g i within)
 
 -- where no slot is a dead one's none goes
