@@ -152,7 +152,7 @@ find_passes p (x ∷ xs) s is = elim (cases_Bool (p x)) [
 ]
 
 -- who holds a key works in its home
-works_where : (h : State) (table key : ℕ) (l : List Change) → list_any (is_change table key) l ≡ true → list_any (is_in_home h.shape table key) l ≡ true
+pub works_where : (h : State) (table key : ℕ) (l : List Change) → list_any (is_change table key) l ≡ true → list_any (is_in_home h.shape table key) l ≡ true
 works_where h table key [] is = absurd (false≢true is)
 works_where h table key (c ∷ l) is = elim (cases_Bool (is_change table key c)) [
   | inl here ↦

@@ -20,11 +20,11 @@ use Rattle.rb_model.proofs.DeadLemmas.{dead_above}
 use Rattle.rb_model.proofs.Stops.{after_shape}
 
 -- which of the dead has slot i of a book
-abbrev dead_of : Book → ℕ → Option ℕ
+abbrev pub dead_of : Book → ℕ → Option ℕ
 dead_of b i = dead_owner (slot_owner b i)
 
 -- and table slot t
-abbrev dead_in : List Book → ℕ → Option ℕ
+abbrev pub dead_in : List Book → ℕ → Option ℕ
 dead_in books t = dead_of (book_at books (t / 16)) (t % 16)
 
 -- an owner of the sixteen is none of the dead
@@ -41,7 +41,7 @@ slot_set (x ∷ xs) (suc i) zero s same = refl
 slot_set (x ∷ xs) (suc i) (suc j) s same = slot_set xs i j s same
 
 -- and so where one book is
-book_set : (books : List Book) (g k i : ℕ) (b : Book) → dead_of b i ≡ dead_of (book_at books g) i → dead_of (book_at (set books g b) k) i ≡ dead_of (book_at books k) i
+pub book_set : (books : List Book) (g k i : ℕ) (b : Book) → dead_of b i ≡ dead_of (book_at books g) i → dead_of (book_at (set books g b) k) i ≡ dead_of (book_at books k) i
 book_set [] g k i b same = refl
 book_set (x ∷ xs) zero zero i b same = same
 book_set (x ∷ xs) zero (suc k) i b same = refl
@@ -66,11 +66,11 @@ taken_dead s i j b few none = slot_set b.slots i j _ (living_none (let o : Owner
 finished_dead : (n i j : ℕ) (b : Book) → dead_of b i ≡ None → dead_of (finished n i b) j ≡ dead_of b j
 finished_dead n i j b none = slot_set b.slots i j (record { newest = n; owner = None }) (sym none)
 
-left_dead : (i j : ℕ) (b : Book) → dead_of b i ≡ None → dead_of (left i b) j ≡ dead_of b j
+pub left_dead : (i j : ℕ) (b : Book) → dead_of b i ≡ None → dead_of (left i b) j ≡ dead_of b j
 left_dead i j b none = slot_set b.slots i j (let s = get_or b.slots i free_slot in record s { owner = None }) (sym none)
 
 -- the slot of one of the sixteen is none of the dead's
-owned_none : (h : State) (s g i : ℕ) → s ≤ session_count → Owned h s g i → dead_of (book_at h.books g) i ≡ None
+pub owned_none : (h : State) (s g i : ℕ) → s ≤ session_count → Owned h s g i → dead_of (book_at h.books g) i ≡ None
 owned_none h s g i few (within, o, at, is) =
     let seg : (16 * g + i) / 16 ≡ g = omega (arith, within) in
     let slot : (16 * g + i) % 16 ≡ i = omega (arith, within) in
@@ -78,11 +78,11 @@ owned_none h s g i few (within, o, at, is) =
     ap dead_owner here ∙ living_none o (omega (arith, is, few))
 
 -- nor is one that it would take
-writes_none : (h : State) (s g i : ℕ) → s ≤ session_count → WritesIn h s g i → dead_of (book_at h.books g) i ≡ None
+pub writes_none : (h : State) (s g i : ℕ) → s ≤ session_count → WritesIn h s g i → dead_of (book_at h.books g) i ≡ None
 writes_none h s g i few (inl owned) = owned_none h s g i few owned
 writes_none h s g i few (inr (none, begun)) = ap dead_owner begun.slot.free
 
-written_dead : (h : State) (s g i t : ℕ) → s ≤ session_count → WritesIn h s g i → dead_in (books_written s g i (has_slot h s g i) h.books) t ≡ dead_in h.books t
+pub written_dead : (h : State) (s g i t : ℕ) → s ≤ session_count → WritesIn h s g i → dead_in (books_written s g i (has_slot h s g i) h.books) t ≡ dead_in h.books t
 written_dead h s g i t few w =
     let b : Book = book_at h.books g in
     book_set h.books g (t / 16) (t % 16) _
@@ -95,17 +95,17 @@ pub record DeadStay (h h2 : State) : Type 0 where
   pub own : (d : ℕ) → session_count < d → session_own h2 d ≡ session_own h d
 
 -- the state is another one with the same sessions and books
-rests : (h h2 x : State) → h2 ≡ x → x.sessions ≡ h.sessions → x.books ≡ h.books → DeadStay h h2
+pub rests : (h h2 x : State) → h2 ≡ x → x.sessions ≡ h.sessions → x.books ≡ h.books → DeadStay h h2
 rests h h2 x e sessions books = record {
   slots = λ t. ap (λ (y : State). dead_at y t) e ∙ ap (λ (l : List Book). dead_in l t) books;
   own = λ d more. ap (λ (y : State). session_own y d) e ∙ ap (λ (l : List Session). (get_or l (d - 1) no_session).own) sessions;
 }
 
-same_rests : (h h2 : State) → h2 ≡ h → DeadStay h h2
+pub same_rests : (h h2 : State) → h2 ≡ h → DeadStay h h2
 same_rests h h2 e = rests h h2 h e refl refl
 
 -- the state is another one where one of the sixteen differs, and perhaps the slot that it has
-moves : (h h2 x : State) (s : ℕ) (session : Session) → s ≤ session_count → h2 ≡ x → x.sessions ≡ set h.sessions (s - 1) session → ((t : ℕ) → dead_in x.books t ≡ dead_in h.books t) → DeadStay h h2
+pub moves : (h h2 x : State) (s : ℕ) (session : Session) → s ≤ session_count → h2 ≡ x → x.sessions ≡ set h.sessions (s - 1) session → ((t : ℕ) → dead_in x.books t ≡ dead_in h.books t) → DeadStay h h2
 moves h h2 x s session few e sessions books = record {
   slots = λ t. ap (λ (y : State). dead_at y t) e ∙ books t;
   own = λ d more.
@@ -114,12 +114,12 @@ moves h h2 x s session few e sessions books = record {
       ∙ ap (λ (z : Session). z.own) (get_or-set_other h.sessions (s - 1) (d - 1) session no_session (omega (arith, few, more))));
 }
 
-ends_dead : (h h2 : State) (s : ℕ) (cursors : List Cursor) → s ≤ session_count → EndsAs h s cursors h2 → DeadStay h h2
+pub ends_dead : (h h2 : State) (s : ℕ) (cursors : List Cursor) → s ≤ session_count → EndsAs h s cursors h2 → DeadStay h h2
 ends_dead h h2 s cursors few (inl (g, i, owned, e)) = moves h h2 _ s _ few e refl (λ t. book_set h.books g (t / 16) (t % 16) _ (left_dead i (t % 16) (book_at h.books g) (owned_none h s g i few owned)))
 ends_dead h h2 s cursors few (inr (none, e)) = moves h h2 _ s _ few e refl (λ t. refl)
 
 -- the books after a commit
-finished_in : (h : State) (n s g i t : ℕ) → s ≤ session_count → Owned h s g i → dead_in (set h.books g (finished n i (book_at h.books g))) t ≡ dead_in h.books t
+pub finished_in : (h : State) (n s g i t : ℕ) → s ≤ session_count → Owned h s g i → dead_in (set h.books g (finished n i (book_at h.books g))) t ≡ dead_in h.books t
 finished_in h n s g i t few owned = book_set h.books g (t / 16) (t % 16) _ (finished_dead n i (t % 16) (book_at h.books g) (owned_none h s g i few owned))
 
 -- the session that a call names, or 0 where it names none
@@ -295,7 +295,11 @@ owed_at h h2 stay t = ap (dead_owed_at h2) (stay.slots t) ∙ by (dead_at h t) r
     by None is = refl
     by (Some d) is = ap (λ (l : List Change). length l + 1) (stay.own d (dead_above h t d is))
 
+-- as many as before, where each of the dead has what it had
+pub owes_same : (h h2 : State) → h2.shape ≡ h.shape → DeadStay h h2 → dead_owed h2 ≡ dead_owed h
+owes_same h h2 shape stay =
+    ap (λ (shape : Shape). sum_by (λ t. dead_owed_at h2 (dead_at h2 t)) (range_with_len 0 (16 * shape.segments))) shape
+    ∙ sum_same (λ t. dead_owed_at h2 (dead_at h2 t)) (λ t. dead_owed_at h (dead_at h t)) (all_slots h) (owed_at h h2 stay)
+
 pub calls_owe : (h h2 : State) (logged : ℕ) (c : Call) (r : Answer) → MayAnswer h logged c r → After h c r h2 → ((k : ℕ) → c ≢ Sweep k) → dead_owed h2 ≡ dead_owed h
-calls_owe h h2 logged c r may after other =
-    ap (λ (shape : Shape). sum_by (λ t. dead_owed_at h2 (dead_at h2 t)) (range_with_len 0 (16 * shape.segments))) (after_shape h h2 c r after)
-    ∙ sum_same (λ t. dead_owed_at h2 (dead_at h2 t)) (λ t. dead_owed_at h (dead_at h t)) (all_slots h) (owed_at h h2 (calls_leave h h2 logged c r may after other))
+calls_owe h h2 logged c r may after other = owes_same h h2 (after_shape h h2 c r after) (calls_leave h h2 logged c r may after other)

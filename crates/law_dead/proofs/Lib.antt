@@ -2,5 +2,8 @@ pub mod Cleared
 pub mod Entries
 pub mod Fewest
 pub mod Going
+pub mod KeyTests
 pub mod Leaving
+pub mod Owing
+pub mod Room
 pub mod Sweeping

@@ -1,8 +1,9 @@
 -- What holds of dead transactions that go, and of the entries that they have in a home.
-use Rattle.std.specs.Prelude.{◌≡◌, ◌≢◌, ◌<◌, ◌≤◌, ◌*◌, ℕ, min}
-use Rattle.std.specs.Prelude.{true, false, List, length, Some}
+use Rattle.std.specs.Prelude.{◌≡◌, ◌≢◌, ◌<◌, ◌≤◌, ◌+◌, ◌*◌, ℕ, min}
+use Rattle.std.specs.Prelude.{true, false, List, length, Some, None}
 use Rattle.rb_base.specs.declared.ids.Xid.{Xid}
-use Rattle.rb_model.specs.Calls.{Answer, Call, MayAnswer, Sweep}
+use Rattle.rb_model.specs.Book.{Owner, book_at, slot_owner}
+use Rattle.rb_model.specs.Calls.{Action, Answer, Call, MayAnswer, Sweep, key_tests}
 use Rattle.rb_model.specs.NextState.{After}
 use Rattle.rb_model.specs.State.{State, session_count, session_own}
 use Rattle.rb_model.specs.Tests.{holder}
@@ -73,6 +74,45 @@ abbrev pub CallsOweSame : Type 0
 CallsOweSame = (h h2 : State) (logged : ℕ) (call : Call) (r : Answer)
     → MayAnswer h logged call r → After h call r h2
     → ((k : ℕ) → call ≢ Sweep k) → dead_owed h2 ≡ dead_owed h
+
+-- What a write's tests ask of its key says the same once the dead of a segment are gone, if none of the dead has a
+-- live change in the key's home, and each session that has one has a slot.
+abbrev pub KeyTestsStay : Type 0
+KeyTestsStay = (h : State) (g s table key : ℕ) (action : Action) → 1 ≤ s → s ≤ session_count
+    → ((t d : ℕ) → t < 16 * h.shape.segments → dead_at h t ≡ Some d → works_at table key h d ≡ false)
+    → ((u : ℕ) → 1 ≤ u → works_at table key h u ≡ true
+    → (t : ℕ) × (t < 16 * h.shape.segments) × Owns h u t)
+    → key_tests (segment_cleared g h) s table key action ≡ key_tests h s table key action
+
+-- Behind a segment that is cleared each owner of its slots is one of the sixteen.
+abbrev pub ClearedIsLiving : Type 0
+ClearedIsLiving = (h : State) (g i : ℕ) (o : Owner) → i < 16
+    → slot_owner (book_at (segment_cleared g h).books g) i ≡ Some o → o.session ≤ session_count
+
+-- Where it has no dead transaction nothing changes.
+abbrev pub ClearedKeepsFull : Type 0
+ClearedKeepsFull = (h : State) (g : ℕ) → ((i : ℕ) → i < 16 → dead_at h (16 * g + i) ≡ None)
+    → segment_cleared g h ≡ h
+
+-- Where no group is owed, no slot is a dead transaction's.
+abbrev pub OwesNone : Type 0
+OwesNone = (h : State) (t : ℕ) → dead_owed h ≡ 0 → t < 16 * h.shape.segments → dead_at h t ≡ None
+
+-- So nothing changes where a home or a segment is cleared, and a sweep takes nothing.
+abbrev pub CalmHome : Type 0
+CalmHome = (h : State) (table key : ℕ) → dead_owed h ≡ 0 → home_cleared table key h ≡ h
+
+abbrev pub CalmSegment : Type 0
+CalmSegment = (h : State) (g : ℕ) → dead_owed h ≡ 0 → g < h.shape.segments → segment_cleared g h ≡ h
+
+abbrev pub CalmSweep : Type 0
+CalmSweep = (h : State) (k : ℕ) → dead_owed h ≡ 0
+    → (swept k (all_slots h) h ≡ h) × (swept_count k (all_slots h) h ≡ 0)
+
+-- As many groups are owed where each of the dead has the slot and the changes that it had.
+abbrev pub OwesSame : Type 0
+OwesSame = (h h2 : State) → h2.shape ≡ h.shape → ((t : ℕ) → dead_at h2 t ≡ dead_at h t)
+    → ((d : ℕ) → session_count < d → session_own h2 d ≡ session_own h d) → dead_owed h2 ≡ dead_owed h
 
 -- A dead transaction with a live change in a home has an entry there that is no living session's.
 abbrev pub DeadHasEntry : Type 0

@@ -3,6 +3,8 @@
 ghost use Rattle.law_dead.specs.Laws.{GoesFirst, NoneIsLeft, ClearedIsClear, ClearedHoldsNone, ClearedKeepsRows};
 ghost use Rattle.law_dead.specs.Laws.{FewestStays, SweptCounts, SweptKeepsRows};
 ghost use Rattle.law_dead.specs.Laws.{CallsLeaveDead, CallsOweSame};
+ghost use Rattle.law_dead.specs.Laws.{KeyTestsStay, ClearedIsLiving, ClearedKeepsFull};
+ghost use Rattle.law_dead.specs.Laws.{OwesNone, CalmHome, CalmSegment, CalmSweep, OwesSame};
 ghost use Rattle.law_dead.specs.Laws.{DeadHasEntry, EntryIsDead};
 
 /// Whichever of the dead that go from a home is put back first, what is left behind all of them is the same. Behind
@@ -21,6 +23,24 @@ pub fn dead_laws()
     ensures swept_rows { SweptKeepsRows }
     ensures leave { CallsLeaveDead }
     ensures owe { CallsOweSame }
+{}
+
+/// A segment that is cleared has no slot of a dead transaction left, and where it had none nothing changes. What the
+/// tests of a write ask of its key says the same then, where no dead transaction has a live change in the key's home.
+pub fn room_laws()
+    ensures tests { KeyTestsStay }
+    ensures living { ClearedIsLiving }
+    ensures full { ClearedKeepsFull }
+{}
+
+/// Where the dead owe no group none of them is left, so clearing a home or a segment changes nothing, and a sweep takes
+/// nothing. They owe as many as before where each has the slot and the changes that it had.
+pub fn owed_laws()
+    ensures none { OwesNone }
+    ensures home { CalmHome }
+    ensures segment { CalmSegment }
+    ensures sweep { CalmSweep }
+    ensures same { OwesSame }
 {}
 
 /// A dead transaction has a live change in a home exactly where an entry of the home is Open, of a transaction that

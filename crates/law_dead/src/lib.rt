@@ -4,4 +4,4 @@
 
 mod laws;
 
-pub use laws::{dead_laws, entry_laws};
+pub use laws::{dead_laws, entry_laws, owed_laws, room_laws};

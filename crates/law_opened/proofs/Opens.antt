@@ -1,22 +1,22 @@
 -- Blocks that were left stand for the state that they open to.
-use Rattle.std.proofs.Common.{◌≡◌, ◌≢◌, ◌⊎◌, inl, inr, ⊎_elim, ◌<◌, ◌≤◌, ◌+◌, ◌-◌, ◌*◌, ◌/◌, ◌%◌, ◌==◌, ◌++◌, ℕ, zero, suc, Bool, true, false, List, [], ◌∷◌, length, map, get_or, replicate, Option, Some, None, refl, sym, ◌∙◌, ap, subst, arith}
+use Rattle.std.proofs.Common.{◌≡◌, ◌⊎◌, inl, inr, ⊎_elim, ◌<◌, ◌≤◌, ◌+◌, ◌-◌, ◌*◌, ◌/◌, ◌%◌, ◌==◌, ◌++◌, ℕ, zero, suc, List, [], ◌∷◌, length, map, get_or, replicate, Some, None, refl, sym, ◌∙◌, ap, subst, arith}
 use Rattle.std.proofs.Math.Nat.{div-add-mod}
 use Rattle.std.proofs.lemmas.Bool.{cases_eq, cases_lt, cond-true, cond-false, eq-eqb, ne_eqb}
 use Rattle.std.proofs.lemmas.Nat.{div_below}
 use Rattle.std.proofs.lemmas.List.{ext_get_or, get_or_past, get_or_append_left, get_or-append-add, length-append, length-map, length-replicate}
 use Rattle.std.proofs.lemmas.List.FromFn.{length-map-range_with_len, get_or-map-range_with_len}
 use Rattle.std.specs.List.{AllByRecursion}
-use Rattle.rb_base.specs.Blocks.{IsShape, table_blocks}
+use Rattle.rb_base.specs.Blocks.{IsShape}
 use Rattle.rb_base.specs.declared.ids.Xid.{Xid}
 use Rattle.rb_base.specs.declared.shape.Shape.{Shape}
 use Rattle.rb_base.specs.declared.sizes.TheConstants.{ACTIVE, SLOTS}
 use Rattle.rb_model.specs.Book.{Book, BookSlot, Owner, book_at, free_slot, fresh_book, slot_owner}
 use Rattle.rb_model.specs.Change as model
-use Rattle.rb_model.specs.State.{Session, State, no_session, owner_at, session_count, session_of, session_own}
+use Rattle.rb_model.specs.State.{Session, State, no_session, owner_at, session_count, session_own}
 use Rattle.rb_model.specs.Rows.{TableRow}
 use Rattle.rb_segment.proofs.Fresh.{all_same}
 use Rattle.rb_segment.specs.Books.{IsBook}
-use Rattle.rb_segment.specs.Header.{Header, Segment, slot_in}
+use Rattle.rb_segment.specs.Header.{Header, Segment}
 use Rattle.rb_segment.specs.Segments.{commit_scn}
 use Rattle.rb_txntable.specs.declared.slots.TableSlot.{TableSlot}
 use Rattle.law_blocks.proofs.Machine.{lives_counted}
@@ -29,7 +29,7 @@ use Rattle.law_home.proofs.Lives.{own_within}
 use Rattle.law_home.specs.Walk.{Change, Env, own}
 use Rattle.law_opened.proofs.Books.{found_tells, slot_there}
 use Rattle.law_opened.proofs.Told.{AreTold, are_told, told_back}
-use Rattle.law_opened.specs.Opened.{dead_number, dead_session, found_owner, found_slot, opened_with, owned_book, owned_books, told_change, told_changes, turns_of}
+use Rattle.law_opened.specs.Opened.{dead_number, dead_session, found_owner, opened_with, owned_book, owned_books, told_change, told_changes, turns_of}
 
 all_append : {X : Type 0} (P : X → Type 0) (xs : List X) (y : X) → AllByRecursion P xs → P y → AllByRecursion P (xs ++ y ∷ [])
 all_append P [] y all last = (last, tt)
