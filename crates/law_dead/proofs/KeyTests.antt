@@ -95,7 +95,7 @@ module _ (h h2 : State) (table key : ℕ) (rest : KeepsRest h h2) (none : (u : �
   numbers_as : session_numbers h2 ≡ session_numbers h
   numbers_as = ap (λ n. range_with_len 1 n) rest.many
 
-  holder_as : holder h2 table key ≡ holder h table key
+  pub holder_as : holder h2 table key ≡ holder h table key
   holder_as =
       ap (λ (l : List ℕ). find (λ s. holds h2 s table key) l) numbers_as
       ∙ find_as (λ s. holds h2 s table key) (λ s. holds h s table key) (session_numbers h) (any_as (is_change table key) not_held)

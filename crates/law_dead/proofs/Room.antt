@@ -10,10 +10,10 @@ use Rattle.rb_model.specs.Book.{Owner, book_at, slot_owner}
 use Rattle.rb_model.specs.Calls.{Action, key_tests}
 use Rattle.rb_model.specs.Dead.{all_gone, dead_at, dead_owner, gone, is_dead, segment_cleared, without, works_at}
 use Rattle.rb_model.specs.State.{Session, State, no_session, owner_at, session_count}
-use Rattle.rb_model.specs.Tests.{is_in_home}
+use Rattle.rb_model.specs.Tests.{holder, is_in_home}
 use Rattle.law_blocks.specs.States.{Owns}
 use Rattle.law_dead.proofs.Going.{owner_else, owner_gone}
-use Rattle.law_dead.proofs.KeyTests.{none_works, tests_as}
+use Rattle.law_dead.proofs.KeyTests.{holder_as, none_works, tests_as}
 
 -- a slot of no dead one stays so
 without_none : (h : State) (u e t : ℕ) → dead_at h t ≡ None → dead_at (without u e h) t ≡ None
@@ -104,3 +104,13 @@ key_tests_stay h g s table key action low high none has_slot =
     let no_work = none_works h table key none has_slot in
     tests_as h (segment_cleared g h) table key (segment_rest g h) no_work
     (λ u dead. all_less table key All (range_with_len (16 * g) 16) h u (no_work u dead)) s action low high
+
+-- So does who holds the key.
+pub holder_stays : (h : State) (g table key : ℕ)
+    → ((t d : ℕ) → t < 16 * h.shape.segments → dead_at h t ≡ Some d → works_at table key h d ≡ false)
+    → ((u : ℕ) → 1 ≤ u → works_at table key h u ≡ true → (t : ℕ) × (t < 16 * h.shape.segments) × Owns h u t)
+    → holder (segment_cleared g h) table key ≡ holder h table key
+holder_stays h g table key none has_slot =
+    let no_work = none_works h table key none has_slot in
+    holder_as h (segment_cleared g h) table key (segment_rest g h) no_work
+    (λ u dead. all_less table key All (range_with_len (16 * g) 16) h u (no_work u dead))

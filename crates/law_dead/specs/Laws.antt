@@ -84,6 +84,14 @@ KeyTestsStay = (h : State) (g s table key : ℕ) (action : Action) → 1 ≤ s �
     → (t : ℕ) × (t < 16 * h.shape.segments) × Owns h u t)
     → key_tests (segment_cleared g h) s table key action ≡ key_tests h s table key action
 
+-- So does who holds the key.
+abbrev pub HolderStays : Type 0
+HolderStays = (h : State) (g table key : ℕ)
+    → ((t d : ℕ) → t < 16 * h.shape.segments → dead_at h t ≡ Some d → works_at table key h d ≡ false)
+    → ((u : ℕ) → 1 ≤ u → works_at table key h u ≡ true
+    → (t : ℕ) × (t < 16 * h.shape.segments) × Owns h u t)
+    → holder (segment_cleared g h) table key ≡ holder h table key
+
 -- Behind a segment that is cleared each owner of its slots is one of the sixteen.
 abbrev pub ClearedIsLiving : Type 0
 ClearedIsLiving = (h : State) (g i : ℕ) (o : Owner) → i < 16

@@ -3,7 +3,7 @@
 ghost use Rattle.law_dead.specs.Laws.{GoesFirst, NoneIsLeft, ClearedIsClear, ClearedHoldsNone, ClearedKeepsRows};
 ghost use Rattle.law_dead.specs.Laws.{FewestStays, SweptCounts, SweptKeepsRows};
 ghost use Rattle.law_dead.specs.Laws.{CallsLeaveDead, CallsOweSame};
-ghost use Rattle.law_dead.specs.Laws.{KeyTestsStay, ClearedIsLiving, ClearedKeepsFull};
+ghost use Rattle.law_dead.specs.Laws.{HolderStays, KeyTestsStay, ClearedIsLiving, ClearedKeepsFull};
 ghost use Rattle.law_dead.specs.Laws.{OwesNone, CalmHome, CalmSegment, CalmSweep, OwesSame};
 ghost use Rattle.law_dead.specs.Laws.{DeadHasEntry, EntryIsDead};
 
@@ -26,9 +26,10 @@ pub fn dead_laws()
 {}
 
 /// A segment that is cleared has no slot of a dead transaction left, and where it had none nothing changes. What the
-/// tests of a write ask of its key says the same then, where no dead transaction has a live change in the key's home.
+/// tests of a write ask of its key says the same then, and who holds it, where no dead transaction has a live change in the key's home.
 pub fn room_laws()
     ensures tests { KeyTestsStay }
+    ensures held { HolderStays }
     ensures living { ClearedIsLiving }
     ensures full { ClearedKeepsFull }
 {}

@@ -8,6 +8,7 @@ pub mod FetchLemmas
 pub mod FewLemmas
 pub mod FinishLemmas
 pub mod GetLemmas
+pub mod HomeLemmas
 pub mod LateLemmas
 pub mod LedLemmas
 pub mod MakesLemmas
@@ -17,11 +18,13 @@ pub mod OpenLemmas
 pub mod QueueLemmas
 pub mod RetainsLemmas
 pub mod RollbackLemmas
+pub mod RoomLemmas
 pub mod SavepointLemmas
 pub mod SeenHomes
 pub mod SharedLemmas
 pub mod StepLemmas
 pub mod TellsLemmas
+pub mod TwiceLemmas
 pub mod WaitLemmas
 pub mod WriteLemmas
 pub mod WriteOrder

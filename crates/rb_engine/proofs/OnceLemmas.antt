@@ -8,11 +8,12 @@ use Rattle.rb_write.specs.declared.ask.AttemptFault.TheVariants as attempts
 use Rattle.rb_base.specs.Logs.{Laws, Logs}
 use Rattle.rb_base.specs.declared.ids.Xid.{Xid}
 use Rattle.rb_base.specs.declared.store.Store.{Ghosts}
-use Rattle.rb_engine.specs.Behind.{Behind, LacksSlot, Tried}
+use Rattle.rb_engine.specs.Behind.{Behind, HasPlace, LacksSlot, Tried}
 use Rattle.rb_engine.specs.Does.{Does, EngineView, Kept, Stands, StopsIf}
 use Rattle.rb_engine.proofs.BehindLemmas.{behind_plain}
 use Rattle.rb_engine.proofs.LateLemmas.{attempt_not_old}
 use Rattle.rb_engine.proofs.MakesLemmas.{makes_refused, makes_written}
+use Rattle.rb_engine.proofs.RoomLemmas.{spare_told}
 use Rattle.rb_engine.proofs.TellsLemmas.{tells_logged, tells_written}
 use Rattle.rb_engine.proofs.WriteLemmas.{about, at_place, failed_is, step_done, step_failed, step_refused, the_failure}
 use Rattle.law_crash.specs.Made.{GivesOne, WriteMade}
@@ -48,7 +49,7 @@ module _ {S : Type 0} (s : Ghosts S) (told : s.tells) (laws : Laws s) (h : State
   at_logged P step = at_step (λ xids. s.lsn old.store ≡ logged_of h.shape (s.blocks old.store) → P xids) step (st.goes on).holds.logged
 
   abbrev pub Plain : Result Wrote Refusal → EngineView S → Type 0
-  Plain result new = Behind s (λ (ready : State). ready ≡ h) h (Write who table key action) (write_answer result) old new
+  Plain result new = Behind s (λ (ready : State). (ready ≡ h) × HasPlace h who (write_answer result)) h (Write who table key action) (write_answer result) old new
 
   module _ (new : EngineView S) (stays : SameStore s old.store new.store) where
     abbrev pub Gives : Bool → Xid → List Xid → Type 0
@@ -59,23 +60,26 @@ module _ {S : Type 0} (s : Ghosts S) (told : s.tells) (laws : Laws s) (h : State
         → (1 ≤ table) × (table ≤ h.shape.tables) → Tried s h who table key action (Ok wrotes.Done) old new
     once_made x gives sessions waits scn stopped copies dead tabled =
         let one = at_logged (Gives true x) gives in
-        inl (behind_plain s laws h (Write who table key action) Done old new st (λ _. runs) refl
+        let single = one.one refl in
+        let made = one.made (omega (arith, single)) in
+        inl (behind_plain s laws h (Write who table key action) Done old new st (λ _. runs)
+        (refl, (x.seg, x.slot, made.in_slot, spare_told h (logged_of h.shape (s.blocks old.store)) x.seg who table key action Done refl (λ seg since is. cc) made.granted))
         (step_done s told laws h old st on who table key action there early new stays x one sessions waits scn stopped copies dead tabled)
         (λ fine. makes_written s told h (st.goes on).xids who table key action x (s.lsn new.store) old.store new.store one)
         (λ fine. tells_written s told h (st.goes on).xids who table key action x old.store new.store one)
         (λ scn lost is. cc))
 
-    refused_plain : (why : Refusal) → is_disk_fault why ≡ false → ((scn lost : ℕ) → why ≡ Rattle.rb_model.specs.declared.refusal.Refusal.TheVariants.TooOld scn lost → ⊥) → Logs s old.store new.store [] true → Does s h (Write who table key action) (Refused why) old new → Plain (Err why) new
-    refused_plain why other young logs does =
+    refused_plain : (why : Refusal) → is_disk_fault why ≡ false → ((scn lost : ℕ) → why ≡ Rattle.rb_model.specs.declared.refusal.Refusal.TheVariants.TooOld scn lost → ⊥) → HasPlace h who (Refused why) → Logs s old.store new.store [] true → Does s h (Write who table key action) (Refused why) old new → Plain (Err why) new
+    refused_plain why other young place logs does =
         let same = logs.blocks told refl in
-        behind_plain s laws h (Write who table key action) (Refused why) old new st (λ _. runs) refl does
+        behind_plain s laws h (Write who table key action) (Refused why) old new st (λ _. runs) (refl, place) does
         (λ fine. makes_refused h (Write who table key action) (s.lsn new.store) (s.blocks old.store) (s.blocks new.store) same why (λ scn lost is. same))
         (λ fine. tells_logged s told h.shape old.store new.store logs)
         (λ scn lost is. absurd (young scn lost (let same : why ≡ Rattle.rb_model.specs.declared.refusal.Refusal.TheVariants.TooOld scn lost = cc in same)))
 
     failed_plain : Does s h (Write who table key action) (Refused DiskFault) old new → Plain (Err DiskFault) new
     failed_plain does =
-        behind_plain s laws h (Write who table key action) (Refused DiskFault) old new st (λ _. runs) refl does
+        behind_plain s laws h (Write who table key action) (Refused DiskFault) old new st (λ _. runs) (refl, tt) does
         (λ fine. let clash : true ≡ false = fine in absurd cc) (λ fine. let clash : true ≡ false = fine in absurd cc)
         (λ scn lost is. cc)
 
@@ -84,15 +88,15 @@ module _ {S : Type 0} (s : Ghosts S) (told : s.tells) (laws : Laws s) (h : State
     refused_as attempts.Failed other memory logs why = (let clash : true ≡ false = other in absurd cc)
     refused_as (attempts.NoSlot seg) other memory logs why = inr (seg, refl, record { none = why.0; fewest = why.1; full = why.2; passed = why.3 })
     refused_as (attempts.RollbackFull seg since) other memory logs why =
-        inl (refused_plain (RollbackFull seg since) other (attempt_not_old (attempts.RollbackFull seg since)) logs
+        inl (refused_plain (RollbackFull seg since) other (attempt_not_old (attempts.RollbackFull seg since)) tt logs
         (step_refused s told laws h old st on who table key action there early new stays (RollbackFull seg since) other why.0.seg (at_place h who why.0.seg why.0.slot why.1) why.2 memory logs))
     refused_as attempts.WornOut other memory logs why =
-        inl (refused_plain (refusal_of attempts.WornOut) other (attempt_not_old attempts.WornOut) logs
+        inl (refused_plain (refusal_of attempts.WornOut) other (attempt_not_old attempts.WornOut) (why.0.seg, why.0.slot, why.1, spare_told h (s.lsn old.store) why.0.seg who table key action (Refused (refusal_of attempts.WornOut)) refl (λ seg since is. cc) why.2) logs
         (step_refused s told laws h old st on who table key action there early new stays (refusal_of attempts.WornOut) other why.0.seg (at_place h who why.0.seg why.0.slot why.1) why.2 memory logs))
-    refused_as attempts.Duplicate other memory logs why = inl (refused_plain (refusal_of attempts.Duplicate) other (attempt_not_old attempts.Duplicate) logs (step_refused s told laws h old st on who table key action there early new stays (refusal_of attempts.Duplicate) other why.0 why.1 why.2 memory logs))
-    refused_as attempts.NotFound other memory logs why = inl (refused_plain (refusal_of attempts.NotFound) other (attempt_not_old attempts.NotFound) logs (step_refused s told laws h old st on who table key action there early new stays (refusal_of attempts.NotFound) other why.0 why.1 why.2 memory logs))
-    refused_as attempts.BlockFull other memory logs why = inl (refused_plain (refusal_of attempts.BlockFull) other (attempt_not_old attempts.BlockFull) logs (step_refused s told laws h old st on who table key action there early new stays (refusal_of attempts.BlockFull) other why.0 why.1 why.2 memory logs))
-    refused_as attempts.SlotsFull other memory logs why = inl (refused_plain (refusal_of attempts.SlotsFull) other (attempt_not_old attempts.SlotsFull) logs (step_refused s told laws h old st on who table key action there early new stays (refusal_of attempts.SlotsFull) other why.0 why.1 why.2 memory logs))
+    refused_as attempts.Duplicate other memory logs why = inl (refused_plain (refusal_of attempts.Duplicate) other (attempt_not_old attempts.Duplicate) tt logs (step_refused s told laws h old st on who table key action there early new stays (refusal_of attempts.Duplicate) other why.0 why.1 why.2 memory logs))
+    refused_as attempts.NotFound other memory logs why = inl (refused_plain (refusal_of attempts.NotFound) other (attempt_not_old attempts.NotFound) tt logs (step_refused s told laws h old st on who table key action there early new stays (refusal_of attempts.NotFound) other why.0 why.1 why.2 memory logs))
+    refused_as attempts.BlockFull other memory logs why = inl (refused_plain (refusal_of attempts.BlockFull) other (attempt_not_old attempts.BlockFull) tt logs (step_refused s told laws h old st on who table key action there early new stays (refusal_of attempts.BlockFull) other why.0 why.1 why.2 memory logs))
+    refused_as attempts.SlotsFull other memory logs why = inl (refused_plain (refusal_of attempts.SlotsFull) other (attempt_not_old attempts.SlotsFull) tt logs (step_refused s told laws h old st on who table key action there early new stays (refusal_of attempts.SlotsFull) other why.0 why.1 why.2 memory logs))
 
     -- or refused, or a call of the store failed
     pub once_unmade : (fault : AttemptFault) (why : Refusal) → why ≡ refusal_of fault → StopsIf (is_disk_fault why) old.memory new.memory

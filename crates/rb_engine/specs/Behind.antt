@@ -10,7 +10,8 @@ use Rattle.law_blocks.specs.States.{Owns}
 use Rattle.law_crash.specs.Crash.{Survives}
 use Rattle.law_crash.specs.Made.{BackBy, TellsLooks}
 use Rattle.rb_model.specs.Answers.{write_answer}
-use Rattle.rb_model.specs.Book.{book_at, owners}
+use Rattle.rb_model.specs.Book.{book_at, is_full, owners}
+use Rattle.rb_model.specs.Calls.{Done, WritesIn}
 use Rattle.rb_model.specs.Calls.{Action, Answer, Call, HasNoSlot, IsFewest, Refused, Write, failed_in, is_fault, key_tests}
 use Rattle.rb_model.specs.Calls.{none_applies}
 use Rattle.rb_model.specs.Change.{Asked}
@@ -21,7 +22,7 @@ use Rattle.rb_model.specs.Out.{cleared_by}
 use Rattle.rb_model.specs.Queue.{first_ready}
 use Rattle.rb_model.specs.State.{State, asked_of}
 use Rattle.rb_model.specs.declared.refusal.Refusal.{Refusal}
-use Rattle.rb_model.specs.declared.refusal.Refusal.TheVariants.{RollbackFull, TooOld}
+use Rattle.rb_model.specs.declared.refusal.Refusal.TheVariants.{RollbackFull, TooOld, WornOut}
 use Rattle.rb_model.specs.declared.wrote.Wrote.{Wrote}
 use Rattle.rb_rollback.specs.Backs.{Fails, SameStore}
 
@@ -79,11 +80,18 @@ pub record LacksSlot (h : State) (s table key : ℕ) (action : Action) (seg : �
   pub full : nat_le 16 (owners (book_at h.books seg)) ≡ true
   pub passed : none_applies (key_tests h s table key action) ≡ true
 
+-- The session has a slot in a segment that isn't full, or would take one there, for an answer that says so much.
+abbrev pub HasPlace : State → ℕ → Answer → Type 0
+HasPlace h s Done = (g : ℕ) × (i : ℕ) × WritesIn h s g i × (is_full (book_at h.books g) ≡ false)
+HasPlace h s (Refused WornOut) = (g : ℕ) × (i : ℕ) × WritesIn h s g i × (is_full (book_at h.books g) ≡ false)
+HasPlace h s answer = Unit {0}
+
 -- A write was tried, with no dead put back: it did what it does, or lacks a slot.
 abbrev pub Tried : {S : Type 0} → Ghosts S → State → (s table key : ℕ) → Action → Result Wrote Refusal
     → (old new : EngineView S) → Type 0
 Tried ghosts h s table key action result old new =
-    Behind ghosts (λ ready. ready ≡ h) h (Write s table key action) (write_answer result) old new
+    Behind ghosts (λ ready. (ready ≡ h) × HasPlace h s (write_answer result)) h (Write s table key action)
+    (write_answer result) old new
     ⊎ ((seg : ℕ) × (result ≡ Err (RollbackFull seg 0)) × LacksSlot h s table key action seg)
 
 -- a refusal for want of room tells a segment that there is
