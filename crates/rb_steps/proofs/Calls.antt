@@ -1,8 +1,8 @@
 -- What an attempt over a store tells of a write is the machine's answer, and its next state.
 use Rattle.std.proofs.Common.{◌≡◌, ◌<◌, ◌≤◌, ◌+◌, ◌*◌, ℕ, Bool, true, false, not, List, [], ◌∷◌, length, Result, Ok, Err, IfOk, IfErr, OnOk, refl, sym, ap, subst, arith}
-use Rattle.rb_write.specs.Asks.{IsWriterOf, adds_for, home_for, kind_of}
+use Rattle.rb_write.specs.Asks.{IsWriterOf, adds_for, kind_of}
 use Rattle.rb_write.specs.Making.{MakesIfAny}
-use Rattle.rb_write.specs.Refusals.{Refuses, TakesAsk, has_failed}
+use Rattle.rb_write.specs.Refusals.{HasCause, TakesAsk, has_failed}
 use Rattle.rb_write.specs.declared.ask.Ask.{Ask}
 use Rattle.rb_write.specs.declared.ask.AttemptFault.{AttemptFault}
 use Rattle.rb_base.specs.Blocks.{after_group, home_block, table_blocks}
@@ -15,7 +15,7 @@ use Rattle.rb_base.specs.declared.sizes.TheConstants.{SLOTS, WORN}
 use Rattle.rb_base.specs.declared.store.Store.{Ghosts}
 use Rattle.law_crash.specs.Made.{GivesOne, WriteMade}
 use Rattle.rb_model.specs.Change.{Kind}
-use Rattle.rb_model.specs.Calls.{Answer, Done, Refused, WritesIn, adds_now, first_of, write_tests}
+use Rattle.rb_model.specs.Calls.{adds_now}
 use Rattle.rb_model.specs.State.{State}
 use Rattle.rb_segment.specs.Header.{Header}
 use Rattle.law_blocks.specs.Standing.{homes_of, logged_of, segments_of}
@@ -23,7 +23,7 @@ use Rattle.law_blocks.specs.Writing.{IsWritten}
 use Rattle.rb_undoblock.specs.declared.record.UndoRecord.{UndoRecord}
 use Rattle.rb_steps.specs.StepLaws.{IsAsked}
 use Rattle.rb_model.specs.Answers.{action_by}
-use Rattle.rb_steps.specs.Steps.{IsAbout, MayWrite, refusal_of}
+use Rattle.rb_steps.specs.Steps.{IsAbout, IsRefusedAs, MayWrite}
 use Rattle.rb_steps.proofs.Firsts.{kind_is}
 use Rattle.rb_steps.proofs.Found.{adds_same}
 use Rattle.rb_steps.proofs.Done.{answered, id_is, ids_are, stands}
@@ -42,11 +42,6 @@ IsAskMade shape before now ask x = (address : Uba) × (u : UndoRecord) × (ready
     × (u.home ≡ home_block shape ask.table ask.key)
     × IsWritten shape (SLOTS * x.seg + x.slot) (adds_for shape before ask) (kind_of ask.op) address u before now
 
--- or refused
-abbrev pub IsAskRefused : Shape → List (List ℕ) → Ask → ℕ → AttemptFault → Type 0
-IsAskRefused shape before ask logged fault = (x : Xid) × (ready : Header) × IsWriterOf shape before ask.own x ready
-    × Refuses fault (home_for shape before ask) (adds_for shape before ask) ask.key x ready logged
-
 module _ {S : Type 0} (store : Ghosts S) (told : store.tells) (old new : S) (h : State) (xids : List Xid) (s : ℕ) (ask : Ask) (about : IsAbout h xids s ask.own (store.blocks old)) (same : store.shape_of old ≡ h.shape) (first : 1 ≤ ask.table) (last : ask.table ≤ h.shape.tables) (mine : MayWrite h s ask.table ask.key) where
   abbrev Before : List (List ℕ)
   Before = store.blocks old
@@ -54,13 +49,8 @@ module _ {S : Type 0} (store : Ghosts S) (told : store.tells) (old new : S) (h :
   abbrev Now : List (List ℕ)
   Now = store.blocks new
 
-  -- the machine's answer where the transaction writes
-  abbrev pub Answered : ℕ → ℕ → ℕ → Answer
-  Answered logged g i = first_of (write_tests h logged g s ask.table ask.key (action_by ask.op)) Done
-
   abbrev pub IsRefused : AttemptFault → Type 0
-  IsRefused fault = (x : Xid) × WritesIn h s x.seg x.slot
-      × (Answered (store.lsn old) x.seg x.slot ≡ Refused (refusal_of fault))
+  IsRefused fault = IsRefusedAs h (store.lsn old) s ask.table ask.key (action_by ask.op) fault
 
   -- blocks in which the write that was asked for is made, and which no test of it refused
   module _ (x : Xid) (now : List (List ℕ)) (s_in : s ≤ length h.sessions) (number : store.lsn old ≡ logged_of h.shape Before) (w : IsAskMade h.shape Before now ask x)
@@ -166,11 +156,7 @@ module _ {S : Type 0} (store : Ghosts S) (told : store.tells) (old new : S) (h :
         },
       )
 
-  pub refused_as : (r : Result Xid AttemptFault) → IfErr r (IsAskRefused (store.shape_of old) Before ask (store.lsn old)) → IfErr r IsRefused
+  pub refused_as : (r : Result Xid AttemptFault) → IfErr r (HasCause (store.shape_of old) Before ask (store.lsn old)) → IfErr r IsRefused
   refused_as (Ok x) why = tt
   refused_as (Err fault) why =
-      let w = subst (λ (k : Shape). IsAskRefused k Before ask (store.lsn old) fault) same why in (
-        w.0,
-        writers.writes_in h xids Before s ask.own about w.0 w.1 w.2,
-        refused h xids Before s (store.lsn old) ask about first last mine w.0 w.1 w.2 fault w.3,
-      )
+      refused h xids Before s (store.lsn old) ask about first last mine fault (subst (λ (k : Shape). HasCause k Before ask (store.lsn old) fault) same why)

@@ -140,7 +140,7 @@ module _ (h : State) (xids : List Xid) (before now : List (List ℕ)) (s : ℕ) 
   not_held =
       subst (λ (z : Home). IsNotHeld z (record { seg = At / SLOTS; slot = At % SLOTS; wrap = u.wrap }) u.key) (sym home_is)
       (subst (λ (k : ℕ). IsNotHeld Cleaned (record { seg = At / SLOTS; slot = At % SLOTS; wrap = u.wrap }) k) (sym asked.key)
-      (subst (λ (z : Xid). IsNotHeld Cleaned z ask.key) xid_is (words.not_held h xids before s ask.own about x ready writer ask.table ask.key first last mine.0)))
+      (subst (λ (z : Xid). IsNotHeld Cleaned z ask.key) xid_is (words.not_held h xids before s ask.own about ask.table ask.key first last x ready writer mine.0)))
 
   -- what is owed leaves room for the record, and for its slot
   has_room : HasRoomFor h.shape before At

@@ -2,16 +2,15 @@
 use Rattle.std.proofs.Common.{◌≡◌, inl, inr, ◌≤◌, ℕ, Bool, true, false, if◌then◌else◌, List, refl, sym, ap, ◌∙◌}
 use Rattle.std.proofs.lemmas.Bool.{cases_Bool}
 use Rattle.rb_write.specs.Asks.{IsWriterOf, adds_in, adds_row, home_for}
-use Rattle.rb_write.specs.Refusals.{HasNoCell, HasNoRow, HasRow, TakesWrite, TakesWriter}
+use Rattle.rb_write.specs.Refusals.{AreOpen, HasNoCell, HasNoRow, HasRow, LacksEntry, TakesWrite, TakesWriter}
 use Rattle.rb_write.specs.declared.ask.Ask.{Ask}
 use Rattle.rb_base.specs.declared.ids.Xid.{Xid}
-use Rattle.rb_heap.specs.Choices.{HasNoChoice}
 use Rattle.rb_heap.specs.Homes.{Home, home_entry}
 use Rattle.rb_model.specs.Answers.{action_by}
 use Rattle.rb_model.specs.Book.{book_at, is_full}
 use Rattle.rb_model.specs.Full.{full_block}
 use Rattle.rb_model.specs.State.{State}
-use Rattle.rb_model.specs.Calls.{adds_now, rows_now}
+use Rattle.rb_model.specs.Calls.{adds_now, key_tests, none_applies, rows_now}
 use Rattle.rb_model.specs.Rows.{has_row}
 use Rattle.rb_model.specs.Tests.{full_slots}
 use Rattle.rb_segment.specs.Header.{Header}
@@ -53,12 +52,30 @@ module _ (h : State) (xids : List Xid) (blocks : List (List ℕ)) (s : ℕ) (ask
   pub adds_same : Adds ≡ Now
   adds_same = ap (adds_row ask.op) (home.shows_is h xids blocks about.stand ask.table ask.key first last s about.session mine.0) ∙ sym (firsts.adds_is ask.op Present)
 
-  module _ (x : Xid) (ready : Header) (writer : IsWriterOf h.shape blocks ask.own x ready) where
+  -- where the home takes the write, the tests of its transaction are left, by whether its segment is full
+  rest : (ring : Bool) → TakesWrite Cleaned Adds ask.key → tested Now Present Full Slots ring ≡ (if Slots then SlotsFull else if ring then RollbackFull else Fine)
+  rest ring takes = ap (λ (b : Bool). tested b Present Full Slots ring) (sym adds_same) ∙ by Adds refl
+    where
+      by : (a : Bool) → Adds ≡ a → tested a Present Full Slots ring ≡ (if Slots then SlotsFull else if ring then RollbackFull else Fine)
+      by true adds =
+          let p = not_there (takes.no_row adds) in
+          let f = home.some_cell h xids blocks about.stand ask.table ask.key first last (takes.cell adds) in
+          rw (p, f) refl
+      by false adds = let p = there (takes.row adds) in rw p refl
+
+  -- none of the tests of the key and its home applies, also where there is no slot for a transaction
+  pub none_found : TakesWrite Cleaned Adds ask.key → ¬ AreOpen (home_entry Cleaned) → none_applies (key_tests h s ask.table ask.key (action_by ask.op)) ≡ true
+  none_found takes some =
+      let e = words.some_left h xids blocks s ask.own about ask.table ask.key first last some in
+      firsts.none_before h s ask.table ask.key ask.op mine.0 mine.1 (rest false takes ∙ rw e refl)
+
+  -- in whatever segment
+  module _ (g i : ℕ) where
     abbrev Ring : Bool
-    Ring = is_full (book_at h.books x.seg)
+    Ring = is_full (book_at h.books g)
 
     abbrev pub Found : Verdict
-    Found = firsts.Found h s ask.table ask.key x.seg x.slot ask.op
+    Found = firsts.Found h s ask.table ask.key g i ask.op
 
     pub duplicate : Adds ≡ true → HasRow Cleaned ask.key → Found ≡ Duplicate
     duplicate adds has = let a = sym adds_same ∙ adds in let p = there has in ap (λ (b : Bool). tested b Present Full Slots Ring) a ∙ rw p refl
@@ -73,34 +90,31 @@ module _ (h : State) (xids : List Xid) (blocks : List (List ℕ)) (s : ℕ) (ask
         let f = home.no_cell h xids blocks about.stand ask.table ask.key first last cell in
         ap (λ (b : Bool). tested b Present Full Slots Ring) a ∙ rw (p, f) refl
 
-    -- a home that takes the write leaves the tests of its transaction
-    rest : TakesWrite Cleaned Adds ask.key → Found ≡ (if Slots then SlotsFull else if Ring then RollbackFull else Fine)
-    rest takes = ap (λ (b : Bool). tested b Present Full Slots Ring) (sym adds_same) ∙ by Adds refl
-      where
-        by : (a : Bool) → Adds ≡ a → tested a Present Full Slots Ring ≡ (if Slots then SlotsFull else if Ring then RollbackFull else Fine)
-        by true adds =
-            let p = not_there (takes.no_row adds) in
-            let f = home.some_cell h xids blocks about.stand ask.table ask.key first last (takes.cell adds) in
-            rw (p, f) refl
-        by false adds = let p = there (takes.row adds) in rw p refl
-
-    pub slots_full : TakesWrite Cleaned Adds ask.key → HasNoChoice (home_entry Cleaned) x → Found ≡ SlotsFull
+    pub slots_full : TakesWrite Cleaned Adds ask.key → LacksEntry Cleaned ask.own → Found ≡ SlotsFull
     slots_full takes none =
-        let e = words.slots_full h xids blocks s ask.own about x ready writer ask.table ask.key first last none in
-        rest takes ∙ rw e refl
+        let e = words.slots_full h xids blocks s ask.own about ask.table ask.key first last none in
+        rest Ring takes ∙ rw e refl
 
-    pub rollback_full : TakesWriter Cleaned Adds ask.key x → NoneMayTurn ready → Found ≡ RollbackFull
+  -- in that of the transaction
+  module _ (x : Xid) (ready : Header) (writer : IsWriterOf h.shape blocks ask.own x ready) where
+    abbrev At : Verdict
+    At = Found x.seg x.slot
+
+    abbrev Here : Bool
+    Here = is_full (book_at h.books x.seg)
+
+    pub rollback_full : TakesWriter Cleaned Adds ask.key x → NoneMayTurn ready → At ≡ RollbackFull
     rollback_full takes none =
-        let e = words.slots_free h xids blocks s ask.own about x ready writer ask.table ask.key first last takes.entry in
+        let e = words.slots_free h xids blocks s ask.own about ask.table ask.key first last x ready writer takes.entry in
         let r = none_full h xids blocks about.stand x.seg (writers.within h xids blocks s ask.own about x ready writer) x.slot ready (writers.is_ready h xids blocks s ask.own about x ready writer) none in
-        rest takes.takes ∙ rw (e, r) refl
+        rest Here takes.takes ∙ rw (e, r) refl
 
     -- none of these tests applies
-    pub fine : TakesWriter Cleaned Adds ask.key x → ¬ NoneMayTurn ready → Found ≡ Fine
+    pub fine : TakesWriter Cleaned Adds ask.key x → ¬ NoneMayTurn ready → At ≡ Fine
     fine takes some =
-        let e = words.slots_free h xids blocks s ask.own about x ready writer ask.table ask.key first last takes.entry in
-        let r : Ring ≡ false = elim (cases_Bool Ring) [
+        let e = words.slots_free h xids blocks s ask.own about ask.table ask.key first last x ready writer takes.entry in
+        let r : Here ≡ false = elim (cases_Bool Here) [
           | inl is ↦ absurd (some (full_none h xids blocks about.stand x.seg (writers.within h xids blocks s ask.own about x ready writer) x.slot ready (writers.is_ready h xids blocks s ask.own about x ready writer) is))
           | inr not_is ↦ not_is
         ] in
-        rest takes.takes ∙ rw (e, r) refl
+        rest Here takes.takes ∙ rw (e, r) refl

@@ -262,7 +262,7 @@ module _ (h : State) (xids : List Xid) (blocks : List (List ℕ)) (stand : Block
           let here : slot_owed (slot_of Segs t) ≡ (slot_of Segs t).live + 1 = cond-true ((slot_of Segs t).state == ACTIVE) ((slot_of Segs t).live + 1) 0 (eq-eqb (slot_of Segs t).state ACTIVE state) in
           omega (arith, count, own_is, here)
 
-  pub dead_few : dead_owed h ≤ 2 ^ 14
+  pub dead_few : dead_owed h ≤ 2 ^ 13
   dead_few =
       let below : dead_owed h ≤ owed h.shape Segs = sum_below (λ t. dead_owed_at h (dead_at h t)) (λ t. slot_owed (slot_of Segs t)) 0 (16 * h.shape.segments) (λ t low high. dead_below t (omega (arith, high))) in
       let all = owed_few in

@@ -1,17 +1,23 @@
--- A session that is about to write has a slot, or would begin somewhere: in the segment with the fewest owners, which has
--- a slot that none owns.
-use Rattle.std.proofs.Common.{◌≡◌, ◌≢◌, ◌⊎◌, inl, inr, ◌<◌, ◌≤◌, ◌+◌, ◌-◌, ◌*◌, ◌/◌, ◌%◌, ℕ, zero, suc, List, length, Option, Some, None, refl, sym, ◌∙◌, ap, arith}
+-- A session that is about to write has a slot, or would begin in the segment with the fewest owners. It lacks nothing
+-- there but a place for its record where it has its slot, or takes one.
+use Rattle.std.proofs.Common.{◌≡◌, ◌≢◌, ◌⊎◌, inl, inr, ◌<◌, ◌≤◌, ◌+◌, ◌-◌, ◌*◌, ◌/◌, ◌%◌, ◌&&◌, ◌||◌, ℕ, zero, suc, Bool, true, false, not, nat_le, List, length, Option, Some, None, refl, sym, ◌∙◌, ap, arith}
+use Rattle.std.proofs.Math.ListN as lists
 use Rattle.std.proofs.Math.Nat.{div-add-mod}
-use Rattle.std.proofs.lemmas.Bool.{cases_eq, cases_lt}
+use Rattle.std.proofs.lemmas.Bool.{and_from, cases_eq, cases_lt, le-leb, lt-leb}
+use Rattle.std.proofs.lemmas.List.Folds.{list_any_at}
 use Rattle.rb_base.specs.declared.sizes.TheConstants.{SLOTS}
 use Rattle.rb_base.specs.declared.ids.Xid.{Xid}
-use Rattle.rb_model.specs.Book.{Book, IsBegun, Owner, book_at, book_slot, owners, slot_owner}
-use Rattle.rb_model.specs.Calls.{HasNoSlot, WritesIn}
+use Rattle.rb_model.specs.Book.{Book, BookSlot, Owner, book_at, free_slot, is_full, owners, slot_owner}
+use Rattle.rb_model.specs.Calls.{HasNoSlot, IsFewest, WritesAt, WritesIn, is_owner}
+use Rattle.rb_model.specs.Clearing.{has_slot_in, lacks_room}
 use Rattle.rb_model.specs.State.{State, owner_at}
+use Rattle.rb_write.specs.Asks as asks
+use Rattle.rb_write.specs.Refusals.{LacksSlot}
 use Rattle.law_blocks.specs.Standing.{env_of}
-use Rattle.law_blocks.specs.States.{Owns}
+use Rattle.law_blocks.specs.States.{BlocksStand, Owns}
+use Rattle.law_write.proofs.Begun.{owners_are}
 use Rattle.rb_steps.specs.Steps.{IsAbout}
-use Rattle.rb_steps.proofs.May.{all_owned, slot_is, some_session}
+use Rattle.rb_steps.proofs.May.{few_owners, slot_is}
 
 -- one of the first n + 1 numbers is the least, and none before it is
 first_least : (f : ℕ → ℕ) (n : ℕ) → (g : ℕ) × (g < suc n) × ((k : ℕ) → k < suc n → f g ≤ f k) × ((k : ℕ) → k < g → f k ≢ f g)
@@ -40,103 +46,76 @@ first_least f (suc n) =
       )
     ]
 
--- of the first n slots of a book each is owned, or the first of the least newest is that of those which none owns
-module _ (b : Book) where
-  abbrev Free : ℕ → Type 0
-  Free i = slot_owner b i ≡ None
+-- where a session writes in a slot, it writes in that segment
+pub in_segment : (h : State) (s g i : ℕ) → WritesIn h s g i → WritesAt h s g
+in_segment h s g i (inl owned) = inl (i, owned)
+in_segment h s g i (inr begins) = inr (begins.0, record { within = begins.1.within; least = begins.1.least; first = begins.1.first })
 
-  abbrev Newest : ℕ → ℕ
-  Newest i = (book_slot b i).newest
+module _ (h : State) (xids : List Xid) (blocks : List (List ℕ)) (s : ℕ) (own : Option Xid) (about : IsAbout h xids s own blocks) where
+  -- a session without an id has no slot
+  pub no_slot_is : own ≡ None → HasNoSlot h s
+  no_slot_is is t o at same = let some = about.id.owns t (record { owner = o; at = at; session = same }) in let never : None ≡ Some ((env_of h.shape blocks).xid t) = sym is ∙ some in cc
 
-  owned_or : (o : Option Owner) → ((p : Owner) × (o ≡ Some p)) ⊎ (o ≡ None)
-  owned_or None = inr refl
-  owned_or (Some p) = inl (p, refl)
-
-  first_free : (n : ℕ) → ((i : ℕ) → i < n → (p : Owner) × (slot_owner b i ≡ Some p)) ⊎ ((i : ℕ) × (i < n) × Free i × ((j : ℕ) → j < n → Free j → Newest i ≤ Newest j) × ((j : ℕ) → j < i → Free j → Newest j ≢ Newest i))
-  first_free zero = inl (λ i lt. absurd (omega (arith, lt)))
-  first_free (suc n) = elim (owned_or (slot_owner b n)) [
-    | inl owned ↦ elim (first_free n) [
-      | inl all ↦ inl (λ i lt. elim (cases_eq i n) [
-        | inl at ↦ (owned.0, ap (slot_owner b) at ∙ owned.1)
-        | inr off ↦ all i (omega (arith, lt, off))
-      ])
-      | inr found ↦ inr (
-        found.0,
-        let lt = found.1 in omega (arith, lt),
-        found.2,
-        λ j lt free. elim (cases_eq j n) [
-          | inl at ↦ let never : None ≡ Some owned.0 = sym free ∙ (ap (slot_owner b) at ∙ owned.1) in absurd cc
-          | inr off ↦ found.3 j (omega (arith, lt, off)) free
-        ],
-        found.4,
-      )
-    ]
-    | inr free_n ↦ elim (first_free n) [
-      | inl all ↦ inr (
-        n,
-        omega arith,
-        free_n,
-        λ j lt free. elim (cases_eq j n) [
-          | inl at ↦ let z : Newest j ≡ Newest n = ap Newest at in omega (arith, z)
-          | inr off ↦ let a = all j (omega (arith, lt, off)) in let never : None ≡ Some a.0 = sym free ∙ a.1 in absurd cc
-        ],
-        λ j lt free. let a = all j lt in let never : None ≡ Some a.0 = sym free ∙ a.1 in absurd cc,
-      )
-      | inr found ↦ elim (cases_lt (Newest n) (Newest found.0)) [
-        | inl less ↦ inr (
-          n,
-          omega arith,
-          free_n,
-          λ j lt free. elim (cases_eq j n) [
-            | inl at ↦ let z : Newest j ≡ Newest n = ap Newest at in omega (arith, z)
-            | inr off ↦ let l = found.3 j (omega (arith, lt, off)) free in omega (arith, l, less)
-          ],
-          λ j lt free same. let l = found.3 j lt free in omega (arith, l, less, same),
-        )
-        | inr le ↦ inr (
-          found.0,
-          let lt = found.1 in omega (arith, lt),
-          found.2,
-          λ j lt free. elim (cases_eq j n) [
-            | inl at ↦ let z : Newest j ≡ Newest n = ap Newest at in omega (arith, z, le)
-            | inr off ↦ found.3 j (omega (arith, lt, off)) free
-          ],
-          found.4,
-        )
-      ]
-    ]
-  ]
-
-module _ (h : State) (xids : List Xid) (blocks : List (List ℕ)) (s : ℕ) (own : Option Xid) (about : IsAbout h xids s own blocks) (there : s ≤ length h.sessions) (few : length h.sessions ≤ 16) where
-  begins : own ≡ None → (g : ℕ) × (i : ℕ) × IsBegun h.books g i
-  begins none =
+  fewest : (g : ℕ) × IsFewest h.books g
+  fewest =
       let counted = about.stand.tell.books_counted in
       let some = about.stand.tell.in_range.few_segments.0 in
       let l = first_least (λ g. owners (book_at h.books g)) (length h.books - 1) in
-      let within : l.0 < length h.books = (let lt = l.1 in omega (arith, lt, counted, some)) in
-      elim (first_free (book_at h.books l.0) SLOTS) [
-        | inl all ↦ absurd (all_owned h xids blocks s own about there few none l.0 (λ i lt. some_session h xids blocks s own about (SLOTS * l.0 + i) (all i lt).0 (slot_is h xids blocks s own about l.0 i lt ∙ (all i lt).1)))
-        | inr found ↦ (
-          l.0,
-          found.0,
-          record {
-            within = within;
-            least = λ k lt. l.2 k (omega (arith, lt));
-            first = l.3;
-            slot = record { within = found.1; free = found.2; least = found.3; first = found.4 };
-          },
-        )
-      ]
+      let lt = l.1 in
+      (l.0, record { within = omega (arith, lt, counted, some); least = λ k k_in. l.2 k (omega (arith, k_in)); first = l.3 })
 
-  pub somewhere : (g : ℕ) × (i : ℕ) × WritesIn h s g i
+  pub somewhere : (g : ℕ) × WritesAt h s g
   somewhere = by own refl
     where
-      by : (o : Option Xid) → own ≡ o → (g : ℕ) × (i : ℕ) × WritesIn h s g i
+      by : (o : Option Xid) → own ≡ o → (g : ℕ) × WritesAt h s g
       by (Some x) is =
           let f : (t : ℕ) × Owns h s t × (x ≡ (env_of h.shape blocks).xid t) = about.id.owned x is in
           let at : SLOTS * (f.0 / SLOTS) + f.0 % SLOTS ≡ f.0 = (let a = div-add-mod f.0 SLOTS in omega (arith, a)) in
-          (f.0 / SLOTS, f.0 % SLOTS, inl (omega arith, f.1.owner, ap (owner_at h) at ∙ f.1.at, f.1.session))
-      by None is =
-          let b = begins is in
-          let none : HasNoSlot h s = λ t o at same. let some = about.id.owns t (record { owner = o; at = at; session = same }) in let never : None ≡ Some ((env_of h.shape blocks).xid t) = sym is ∙ some in cc in
-          (b.0, b.1, inr (none, b.2))
+          (f.0 / SLOTS, inl (f.0 % SLOTS, (omega arith, f.1.owner, ap (owner_at h) at ∙ f.1.at, f.1.session)))
+      by None is = let f = fewest in (f.0, inr (no_slot_is is, f.1))
+
+  -- the segment with the fewest that run has the fewest owners, and each slot has one where all run
+  pub no_slot_left : (seg : ℕ) → LacksSlot h.shape blocks seg → IsFewest h.books seg × (nat_le 16 (owners (book_at h.books seg)) ≡ true)
+  no_slot_left seg lacks =
+      let count = about.stand.tell.books_counted in
+      let few : asks.IsFewest h.shape blocks seg = lacks.fewest in
+      let within = few.within in
+      let here = owners_are h xids blocks about.stand seg within in (
+        record {
+          within = omega (arith, within, count);
+          least = λ k k_in. let k_few : k < h.shape.segments = omega (arith, k_in, count) in let there = owners_are h xids blocks about.stand k k_few in let le = few.least k k_few in omega (arith, here, there, le);
+          first = λ k lower same. let l = few.lower k lower in let there = owners_are h xids blocks about.stand k (omega (arith, within, lower)) in omega (arith, l, here, there, same);
+        },
+        let all = lacks.all_run in le-leb 16 (owners (book_at h.books seg)) (omega (arith, here, all)),
+      )
+
+-- no place is lacking, and a slot isn't where the session has one or one is left
+has_room : (full has many : Bool) → full ≡ false → (has ≡ true) ⊎ (many ≡ false) → (full || (not has && many)) ≡ false
+has_room full has many place (inl is) = rw (place, is) refl
+has_room full true many place (inr left) = rw place refl
+has_room full false many place (inr left) = rw (place, left) refl
+
+module _ (h : State) (xids : List Xid) (blocks : List (List ℕ)) (stand : BlocksStand h xids blocks) (s g i : ℕ) where
+  abbrev Here : Book
+  Here = book_at h.books g
+
+  pub slot_is_room : WritesIn h s g i → is_full Here ≡ false → lacks_room s Here ≡ false
+  slot_is_room writes place = has_room (is_full Here) (has_slot_in s Here) (nat_le 16 (owners Here)) place (by writes)
+    where
+      has_there : (o : Owner) → slot_owner Here i ≡ Some o → o.session ≡ s → has_slot_in s Here ≡ true
+      has_there o at same = elim (cases_lt i (length Here.slots)) [
+        | inl lt ↦
+            let mine : is_owner s (Some o) ≡ true = and_from (nat_le o.session s) (nat_le s o.session) (le-leb o.session s (omega (arith, same))) (le-leb s o.session (omega (arith, same))) in
+            list_any_at (λ (slot : BookSlot). is_owner s slot.owner) Here.slots i free_slot lt (ap (is_owner s) at ∙ mine)
+        | inr out ↦
+            let none : None ≡ Some o = sym (ap (λ (slot : BookSlot). slot.owner) (lists.get_or-eq_default Here.slots free_slot out)) ∙ at in
+            absurd cc
+      ]
+
+      by : WritesIn h s g i → (has_slot_in s Here ≡ true) ⊎ (nat_le 16 (owners Here) ≡ false)
+      by (inl owned) = inl (has_there owned.1 (sym (slot_is h g i owned.0) ∙ owned.2) owned.3)
+      by (inr begins) =
+          let count = stand.tell.books_counted in
+          let within = begins.1.within in
+          let few = few_owners Here i (stand.tell.books g (omega (arith, within, count))).slots begins.1.slot.within begins.1.slot.free in
+          inr (lt-leb 16 (owners Here) (omega (arith, few)))

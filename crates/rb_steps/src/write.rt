@@ -7,11 +7,10 @@ ghost use Rattle.rb_base.specs.Groups.{Patch};
 ghost use Rattle.rb_base.specs.Logs.{Logs, group_of};
 ghost use Rattle.rb_base.specs.declared.ids.Xid.{Xid};
 ghost use Rattle.law_crash.specs.Made.{GivesOne, WriteMade};
-ghost use Rattle.rb_model.specs.Calls.{Done, Refused, first_of, write_tests, WritesIn};
 ghost use Rattle.rb_model.specs.State.{State};
 ghost use Rattle.law_blocks.specs.Standing.{logged_of};
 ghost use Rattle.rb_model.specs.Answers.{action_by};
-ghost use Rattle.rb_steps.specs.Steps.{refusal_of, IsAbout, MayWrite};
+ghost use Rattle.rb_steps.specs.Steps.{IsAbout, IsRefusedAs, MayWrite};
 
 use rb_base::{SLOTS, Store, WORN, Workspace, Xid};
 use rb_write::{Ask, AttemptFault, attempt};
@@ -20,7 +19,8 @@ use rb_write::{Ask, AttemptFault, attempt};
 /// answer is the transaction's id, or why nothing is written. `Failed` only where a call of the store failed. What the
 /// workspace has afterwards is open. No other session holds the key, and no commit above the snapshot of a serializable
 /// transaction has changed the row. It is `attempt`, and what it adds is its contract, which speaks of the machine's
-/// state: a write that is done is the machine's next state, and a refusal its first test that applies.
+/// state: a write that is done is the machine's next state, and a refusal its first test that applies. `NoSlot` is
+/// behind the tests of the key and its home: no slot is left in the segment in which the session would begin.
 pub fn write_step<S: Store>(
     store: &mut S,
     ask: &Ask<'_>,
@@ -49,9 +49,7 @@ pub fn write_step<S: Store>(
     ensures refused { S.tells → has_failed result ≡ false → (h : State) (xids : List Xid) (s : ℕ)
         → IsAbout h xids s ask.now.own (S.blocks store.old)
         → S.shape_of store.old ≡ h.shape → s ≤ length h.sessions → MayWrite h s ask.now.table ask.now.key
-        → length h.sessions ≤ 16 → IfErr result (λ fault. (x : Xid) × WritesIn h s x.seg x.slot
-        × (first_of (write_tests h (S.lsn store.old) x.seg s ask.now.table ask.now.key
-        (action_by ask.now.op)) Done ≡ Refused (refusal_of fault))) }
+        → IfErr result (IsRefusedAs h (S.lsn store.old) s ask.now.table ask.now.key (action_by ask.now.op)) }
     ensures unchanged { has_failed result ≡ false → OnErr result (Logs S.Store store.old store.new [] true) }
     ensures numbers { OnOk result (S.lsn store.old < WORN) }
 {

@@ -1,10 +1,10 @@
 -- What a write asks for, and where it is made.
-use Rattle.std.specs.Prelude.{◌≡◌, ◌≢◌, ◌==◌, ◌<◌, ◌≤◌, ◌^◌, ℕ, Bool, true, false, not}
+use Rattle.std.specs.Prelude.{◌≡◌, ◌==◌, ◌<◌, ◌≤◌, ◌^◌, ℕ, Bool, true, false, not}
 use Rattle.std.specs.Prelude.{List, length, Option, None, Some, ⊤}
 use Rattle.rb_base.specs.Blocks.{block_of, header_block, home_block, table_blocks}
 use Rattle.rb_base.specs.declared.ids.Xid.{Xid}
 use Rattle.rb_base.specs.declared.shape.Shape.{Shape}
-use Rattle.rb_base.specs.declared.sizes.TheConstants.{ACTIVE, SLOTS, VALUE_BYTES}
+use Rattle.rb_base.specs.declared.sizes.TheConstants.{SLOTS, VALUE_BYTES}
 use Rattle.rb_write.specs.Holding.{cell_of_key}
 use Rattle.rb_write.specs.declared.ask.Ask.{Ask}
 use Rattle.rb_cell.specs.declared.cell.Cell.{Cell}
@@ -87,11 +87,9 @@ pub record IsWriterOf (shape : Shape) (blocks : List (List ℕ)) (own : Option X
     pub takes : own ≡ None → IsFewest shape blocks x.seg × MayClaim (header_in shape blocks x.seg) x.slot
         × (ready ≡ claimed x.slot (header_in shape blocks x.seg)) × (x.wrap ≡ (slot_in ready x.slot).wrap)
 
--- The transaction that is to write runs, and without one there is a table slot to take.
-pub record MayWrite (shape : Shape) (blocks : List (List ℕ)) (own : Option Xid) : Type 0 where
-  pub runs : (x : Xid) → own ≡ Some x → Runs (header_in shape blocks x.seg) x
-  pub slot : own ≡ None → (g : ℕ) × (g < shape.segments)
-      × ((i : ℕ) × (i < SLOTS) × ((slot_in (header_in shape blocks g) i).state ≢ ACTIVE))
+-- the transaction that is named, if one is, runs
+abbrev pub MayWrite : Shape → List (List ℕ) → Option Xid → Type 0
+MayWrite shape blocks own = (x : Xid) → own ≡ Some x → Runs (header_in shape blocks x.seg) x
 
 -- An Open entry is of a table slot that there is, and its chain isn't near the end of its type.
 pub record IsEntryYoung (shape : Shape) (entry : Entry) : Type 0 where

@@ -36,6 +36,12 @@ pub enum AttemptFault {
     /// Each slot entry of the key's block is another transaction's, of which no outcome is known.
     #[error("no slot entry of the key's block is free")]
     SlotsFull,
+    /// No table slot is idle in the segment in which the transaction would begin.
+    #[error("segment {seg} has no slot for one more transaction")]
+    NoSlot {
+        /// The segment, the one with the fewest transactions that run.
+        seg: u16,
+    },
     /// The segment has no room for one more record.
     #[error("segment {seg} has no room, {since} records since its oldest transaction began")]
     RollbackFull {

@@ -15,7 +15,7 @@ ghost use Rattle.law_blocks.specs.Writing.{IsWritten};
 ghost use Rattle.rb_undoblock.specs.declared.record.UndoRecord.{UndoRecord};
 
 use crate::ask::{Ask, AttemptFault};
-use crate::home::{Place, cell_for, clean_home};
+use crate::home::{Place, are_open, cell_for, clean_home};
 use crate::segment::writer;
 use crate::undo::put_change;
 use rb_base::{SLOTS, Store, WORN, Workspace, Xid};
@@ -24,7 +24,8 @@ use rb_heap::choose;
 /// Puts the write that is asked for into the group, or refuses to. The store is given no group by it, and only loads
 /// blocks. The key is looked for once more here: who holds it was asked of its block as it is (`holder_of`), since a
 /// write that waits for another transaction, or comes too late, leaves no group and so cleans nothing, while this one
-/// is made in the cleaned block.
+/// is made in the cleaned block. A transaction that is still to be has no entry of its own there, so whether it finds
+/// one is asked before it takes a table slot.
 fn prepare<S: Store>(
     store: &mut S,
     ask: &Ask<'_>,
@@ -60,6 +61,9 @@ fn prepare<S: Store>(
     group.clear();
     clean_home(store, block, home, group)?;
     let cell = cell_for(home, ask)?;
+    if ask.own.is_none() && are_open(home) {
+        return Err(AttemptFault::SlotsFull);
+    }
     let xid = writer(store, ask.own, header, group)?;
     let Some(entry) = choose(home, xid) else {
         return Err(AttemptFault::SlotsFull);
@@ -75,9 +79,9 @@ fn prepare<S: Store>(
 /// Writes a key of a table by one group, or refuses to and logs none. The transaction runs, or takes a table slot of
 /// the segment with the fewest that run. Its block is cleaned; the change takes a slot entry and a cell of it, and what
 /// they were is kept in an undo record. The tests come in this order: whether the key has a row, a cell for a row that
-/// is added, an entry, room for the record, and the log's numbers. `Failed` only where a call of the store failed. What
-/// the workspace has afterwards is open. In a damaged file, where the transaction doesn't run or no table slot is idle,
-/// it is `RollbackFull`. The key is no other transaction's. (Oracle7 Server Concepts, *Rollback Segments*.)
+/// is added, an entry, a table slot, room for the record, and the log's numbers. `Failed` only where a call of the
+/// store failed. What the workspace has afterwards is open. In a damaged file, where the transaction that is asked with
+/// doesn't run, it is `RollbackFull`. The key is no other's. (Oracle7 Server Concepts, *Rollback Segments*.)
 pub fn attempt<S: Store>(
     store: &mut S,
     ask: &Ask<'_>,

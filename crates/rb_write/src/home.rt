@@ -4,12 +4,12 @@ ghost use Rattle.std.specs.Prelude.{◌≡◌, ◌<◌, ◌≤◌, ◌+◌, ◌^
 ghost use Rattle.std.specs.Prelude.{IfErr, IfOk, OnErr, OnOk};
 ghost use Rattle.std.specs.List.{AllByRecursion};
 ghost use Rattle.rb_write.specs.Asks.{adds_in, adds_row, kind_of, AreYoung, IsShort};
-ghost use Rattle.rb_write.specs.Refusals.{has_failed, HomeRefuses, TakesWrite};
+ghost use Rattle.rb_write.specs.Refusals.{has_failed, AreOpen, HomeRefuses, TakesWrite};
 ghost use Rattle.rb_base.specs.Blocks.{block_of, table_blocks, written_to, AreBlocks};
 ghost use Rattle.rb_base.specs.Groups.{group_length};
 ghost use Rattle.rb_base.specs.Logs.{Logs};
 ghost use Rattle.rb_heap.specs.Cleaning.{cleaned_home, IsCleanPatch};
-ghost use Rattle.rb_heap.specs.Homes.{home_of};
+ghost use Rattle.rb_heap.specs.Homes.{home_entry, home_of};
 ghost use Rattle.law_blocks.specs.Standing.{env_of};
 ghost use Rattle.law_blocks.specs.Writing.{cell_after, entry_after, IsCellChoice};
 
@@ -19,7 +19,7 @@ use rb_base::{BlockNo, Group, Store, UNIT, Uba, VALUE_BYTES, Xid, array_of};
 use rb_cell::{CELLS, Cell, ROW, STUB, front};
 use rb_cleanout::{CLEAN_BYTES, CLEAN_PATCHES, clean_copy};
 use rb_heap::{find, free_cell};
-use rb_itl::{ENTRIES, Entry, OPEN};
+use rb_itl::{ENTRIES, Entry, OPEN, entry};
 use rb_model::Op;
 
 /// Where a change is made.
@@ -103,6 +103,20 @@ pub fn cell_for(home: &[u8], ask: &Ask<'_>) -> Result<u8, AttemptFault>
         (false, false) => Err(AttemptFault::NotFound),
         _ => Ok(c),
     }
+}
+
+/// Whether each slot entry is Open. A transaction that is still to be, which has none of its own, finds none then.
+pub fn are_open(home: &[u8]) -> bool
+    requires { length home.now ≡ UNIT }
+    ensures open { result ≡ true → AreOpen (home_entry (home_of home.now)) }
+    ensures other { result ≡ false → ¬ AreOpen (home_entry (home_of home.now)) }
+{
+    for i in 0..ENTRIES {
+        if entry(home, i).kind != OPEN {
+            return false;
+        }
+    }
+    true
 }
 
 /// A locked cell with that row.

@@ -2,10 +2,10 @@
 //! segment with the fewest that run. `attempt` calls it.
 ghost use Rattle.std.specs.Prelude.{IsTrue, ◌≡◌, ◌≢◌, ◌↔◌, ◌<◌, ◌≤◌, ◌+◌};
 ghost use Rattle.std.specs.Prelude.{◌++◌, ℕ};
-ghost use Rattle.std.specs.Prelude.{List, [], false, true, not, length, Some, None, IfOk, OnErr, OnOk};
+ghost use Rattle.std.specs.Prelude.{List, [], false, true, not, length, Some, None, IfErr, IfOk, OnErr, OnOk};
 ghost use Rattle.std.specs.Result.{is_err};
 ghost use Rattle.rb_write.specs.Asks.{header_in, AreYoung, IsFewest, IsWriterOf, MayWrite};
-ghost use Rattle.rb_write.specs.Refusals.{has_failed};
+ghost use Rattle.rb_write.specs.Refusals.{has_failed, LacksSlot};
 ghost use Rattle.rb_base.specs.Blocks.{block_of, header_block, written_to, IsShape};
 ghost use Rattle.rb_base.specs.Groups.{Patch, group_length};
 ghost use Rattle.rb_base.specs.Logs.{Logs};
@@ -126,8 +126,7 @@ fn own_writer<S: Store>(store: &mut S, xid: Xid, header: &mut [u8]) -> Result<Xi
 }
 
 /// A transaction that takes a table slot of the segment with the fewest that run. The copy is that segment's header,
-/// with the slot taken, and the group has the patches of that. `RollbackFull` where no slot is idle, as in a damaged
-/// file.
+/// with the slot taken, and the group has the patches of that. `NoSlot` where no slot of it is idle.
 fn new_writer<S: Store>(
     store: &mut S,
     header: &mut [u8],
@@ -141,8 +140,8 @@ fn new_writer<S: Store>(
     ensures length { length header.new ≡ UNIT }
     ensures few { length group.new ≤ length group.old + 2 }
     ensures short { group_length group.new ≤ group_length group.old + (8 + SLOT_BYTES) + (8 + 8) }
-    ensures failed { S.tells → MayWrite (S.shape_of store.old) (S.blocks store.old) None
-        → OnErr result (has_failed result ≡ true) }
+    ensures refused { S.tells → has_failed result ≡ false → IfErr result (λ fault. (seg : ℕ)
+        × (fault ≡ AttemptFault.NoSlot seg) × LacksSlot (S.shape_of store.old) (S.blocks store.old) seg) }
     ensures there { IfOk result (λ x. x.seg < (S.shape_of store.old).segments) }
     ensures runs { IfOk result (Runs (header_of header.new)) }
     ensures patches { IfOk result (λ x. (patches : List Patch)
@@ -158,7 +157,7 @@ fn new_writer<S: Store>(
     };
     load_header(store, seg, header)?;
     if !is_idle(header) {
-        return Err(AttemptFault::RollbackFull { seg, since: 0 });
+        return Err(AttemptFault::NoSlot { seg });
     }
     let shape = store.shape();
     Ok(claim(header, &shape, seg, group))
@@ -166,7 +165,8 @@ fn new_writer<S: Store>(
 
 /// The transaction that writes: the one that has its table slot, or one that takes a slot of the segment with the
 /// fewest that run. The copy is its segment's header, with the slot taken, and the group has the patches of that.
-/// `RollbackFull` where that transaction doesn't run, or no slot is idle, both in a damaged file alone.
+/// `NoSlot` where no slot of that segment is idle, and `RollbackFull` where the transaction that is named doesn't run,
+/// as in a damaged file alone.
 pub fn writer<S: Store>(
     store: &mut S,
     own: Option<Xid>,
@@ -182,8 +182,9 @@ pub fn writer<S: Store>(
     ensures length { length header.new ≡ UNIT }
     ensures few { length group.new ≤ length group.old + 2 }
     ensures short { group_length group.new ≤ group_length group.old + (8 + SLOT_BYTES) + (8 + 8) }
-    ensures failed { S.tells → MayWrite (S.shape_of store.old) (S.blocks store.old) own
-        → OnErr result (has_failed result ≡ true) }
+    ensures refused { S.tells → MayWrite (S.shape_of store.old) (S.blocks store.old) own
+        → has_failed result ≡ false → IfErr result (λ fault. (seg : ℕ) × (fault ≡ AttemptFault.NoSlot seg)
+        × (own ≡ None) × LacksSlot (S.shape_of store.old) (S.blocks store.old) seg) }
     ensures there { IfOk result (λ x. x.seg < (S.shape_of store.old).segments) }
     ensures runs { IfOk result (Runs (header_of header.new)) }
     ensures patches { IfOk result (λ x. (patches : List Patch)

@@ -22,13 +22,13 @@ returns-clause-gives g c told h xids s about same s_in mine number =
     (call.takes told are_young) call.numbers
 
 pub returns-clause-refused : goal.returns-clause-refused
-returns-clause-refused g c told going h xids s about same s_in mine sixteen =
+returns-clause-refused g c told going h xids s about same s_in mine =
     let s_of = g.S.Store in
     let old = c.args.store.now in
     let ask : Ask = c.args.ask.now in
     let are_young : AreYoung (s_of.shape_of old) (s_of.blocks old) = subst (λ (k : Shape). AreYoung k (s_of.blocks old)) (sym same) (young h xids (s_of.blocks old) about.stand) in
     let last : c.args.ask.now.table ≤ h.shape.tables = subst (λ (k : Shape). c.args.ask.now.table ≤ k.tables) same c.requires.table.1 in
-    let may = subst (λ (k : Shape). MayWrite k (s_of.blocks old) c.args.ask.now.own) (sym same) (may_write h xids (s_of.blocks old) s c.args.ask.now.own about s_in sixteen) in
+    let may = subst (λ (k : Shape). MayWrite k (s_of.blocks old) c.args.ask.now.own) (sym same) (may_write h xids (s_of.blocks old) s c.args.ask.now.own about) in
     let call = c.attempt.ensures in
     refused_as s_of told old c.attempt.new.store h xids s ask about same c.requires.table.0 last mine c.attempt.result (call.cause told are_young may going)
 

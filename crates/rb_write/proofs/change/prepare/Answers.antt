@@ -1,15 +1,14 @@
-use Rattle.std.proofs.Common.{◌≡◌, ◌+◌, ◌<◌, ◌≤◌, ◌^◌, ℕ, Bool, List, [], ◌++◌, true, not, Result, Err, IfErr, refl, ap, sym, subst, ◌∙◌, arith}
+use Rattle.std.proofs.Common.{◌≡◌, ◌+◌, ◌<◌, ◌^◌, ℕ, Bool, List, [], ◌++◌, true, false, not, None, is_some, Result, Err, IfErr, refl, ap, sym, subst, ◌∙◌, arith}
 use Rattle.std.proofs.lemmas.Result.{err_from_is_err_and, IfOk-from_err}
-use Rattle.rb_write.proofs.Causes.{both_ways, logs_on, takes_writer}
+use Rattle.rb_write.proofs.Causes.{both_ways, by_home, logs_on, no_entry, open_lacks, takes_writer}
 use Rattle.rb_write.proofs.Choices.{chain_short, choice_agrees, none_agrees}
 use Rattle.rb_write.proofs.Headers.{ready_is, turned_may, young_at}
-use Rattle.rb_write.proofs.Writers.{writer_there}
 use Rattle.rb_write.proofs.Written.{made_by, ready_blocks, Prepared}
-use Rattle.rb_write.specs.Asks.{adds_for, adds_in, home_for, AreYoung, IsWriterOf}
+use Rattle.rb_write.specs.Asks.{adds_in, home_for, AreYoung, IsWriterOf, MayWrite}
 use Rattle.rb_write.specs.Making.{Changes}
-use Rattle.rb_write.specs.Refusals.{has_failed, HasCause, Refuses, TakesWrite, TakesWriter}
+use Rattle.rb_write.specs.Refusals.{has_failed, AreOpen, HasCause, HomeRefuses, LacksEntry, LacksSlot, TakesWrite, TakesWriter}
 use Rattle.rb_write.specs.declared.ask.AttemptFault.{AttemptFault}
-use Rattle.rb_write.specs.declared.ask.AttemptFault.TheVariants.{RollbackFull}
+use Rattle.rb_write.specs.declared.ask.AttemptFault.TheVariants.{NoSlot, RollbackFull}
 use Rattle.rb_write.specs.declared.home.Place.{Place}
 use Rattle.rb_base.proofs.Each.{all_so}
 use Rattle.rb_base.specs.Blocks.{block_of, header_block, home_block, shape_blocks, table_blocks, written_to, AreWithin}
@@ -20,7 +19,6 @@ use Rattle.rb_base.specs.declared.shape.Shape.{Shape}
 use Rattle.rb_cleanout.proofs.Copies.{all_joined}
 use Rattle.rb_cleanout.proofs.Grouped.{of_block}
 use Rattle.rb_heap.proofs.Reading.{entry_read}
-use Rattle.rb_heap.specs.Choices.{HasNoChoice}
 use Rattle.rb_heap.specs.Cleaning.{cleaned_home, IsCleanPatch}
 use Rattle.rb_heap.specs.Homes.{Home, home_entry, home_of}
 use Rattle.rb_itl.specs.Entries.{entry_at, free_entry}
@@ -28,6 +26,7 @@ use Rattle.rb_segment.specs.Header.{header_of}
 use Rattle.law_blocks.specs.Standing.{env_of}
 use Rattle.law_blocks.specs.Writing.{AreOfReady}
 use Rattle.rb_write.proofs.change.prepare.Goals as goal
+use Rattle.rb_write.proofs.change.prepare.Goals.{else-is_none-via-then-is_none+else-are_open, else-is_none-via-else-is_none}
 
 plus_none : (a b : ℕ) → a ≡ b + 0 → a ≡ b
 plus_none a b is = omega (arith, is)
@@ -40,21 +39,62 @@ returns-in_err-cell-clause-cause g c told young may going =
     let blocks = s.blocks old in
     let ask = c.args.ask.now in
     let fault = c.in_err-cell.field-0.0 in
-    let same = c.shape-shape.ensures.shape in
-    let some : 1 ≤ shape.segments = omega (arith, c.shape-shape.ensures.in_range.few_segments.0, ap (λ (k : Shape). k.segments) same) in
-    let number = c.home_block-block.ensures.number ∙ ap (λ (k : Shape). home_block k ask.table ask.key) same in
+    let number = c.home_block-block.ensures.number ∙ ap (λ (k : Shape). home_block k ask.table ask.key) c.shape-shape.ensures.shape in
     let home : home_of c.clean_home.new.home ≡ home_for shape blocks ask = c.in_ok-clean_home.ensures.cleaned told young
     ∙ ap (λ (b : ℕ). cleaned_home (env_of shape blocks).look (home_of (block_of blocks b))) number in
-    let writer = writer_there shape blocks ask.own some may in
     let logged = s.lsn old in
     let p = err_from_is_err_and c.from_residual-in_err-cell.result c.from_residual-in_err-cell.ensures.1 in
     let is : c.from_residual-in_err-cell.result ≡ Err fault = p.1 ∙ ap (λ (f : AttemptFault). Err f) p.2 in
-    subst (λ (r : Result Xid AttemptFault). IfErr r (HasCause shape blocks ask logged)) (sym is) (
-      writer.0,
-      writer.1,
-      writer.2,
-      subst (λ (h : Home). Refuses fault h (adds_in h ask) ask.key writer.0 writer.1 logged) home (c.in_err-cell.ensures.refused writer.0 writer.1 logged),
-    )
+    subst (λ (r : Result Xid AttemptFault). IfErr r (HasCause shape blocks ask logged)) (sym is)
+    (by_home shape blocks ask logged fault (subst (λ (h : Home). HomeRefuses fault h (adds_in h ask) ask.key) home c.in_err-cell.ensures.refused))
+
+pub returns-then-are_open-clause-cause : goal.returns-then-are_open-clause-cause
+returns-then-are_open-clause-cause g c told young may going =
+    let s = g.S.Store in
+    let old = c.args.store.now in
+    let shape = s.shape_of old in
+    let blocks = s.blocks old in
+    let ask = c.args.ask.now in
+    let copy = c.clean_home.new.home in
+    let number = c.home_block-block.ensures.number ∙ ap (λ (k : Shape). home_block k ask.table ask.key) c.shape-shape.ensures.shape in
+    let home : home_of copy ≡ home_for shape blocks ask = c.in_ok-clean_home.ensures.cleaned told young
+    ∙ ap (λ (b : ℕ). cleaned_home (env_of shape blocks).look (home_of (block_of blocks b))) number in
+    let none : is_some ask.own ≡ false = c.is_none.ensures ∙ ap not c.if-is_none.true in
+    subst (λ (h : Home). TakesWrite h (adds_in h ask) ask.key × LacksEntry h ask.own) home
+    (c.in_ok-cell.ensures.takes, open_lacks (home_of copy) ask.own none (c.are_open.ensures.open c.if-are_open.true))
+
+pub returns-in_err-xid-clause-cause : goal.returns-in_err-xid-clause-cause
+returns-in_err-xid-clause-cause g c told young may going =
+    let s = g.S.Store in
+    let old = c.args.store.now in
+    let mid = c.clean_home.new.store in
+    let shape = s.shape_of old in
+    let blocks = s.blocks old in
+    let ask = c.args.ask.now in
+    let fault = c.in_err-xid.field-0.0 in
+    let copy = c.clean_home.new.home in
+    let logs = c.in_ok-clean_home.ensures.logs in
+    let number = c.home_block-block.ensures.number ∙ ap (λ (k : Shape). home_block k ask.table ask.key) c.shape-shape.ensures.shape in
+    let home : home_of copy ≡ home_for shape blocks ask = c.in_ok-clean_home.ensures.cleaned told young
+    ∙ ap (λ (b : ℕ). cleaned_home (env_of shape blocks).look (home_of (block_of blocks b))) number in
+    let logged = s.lsn old in
+    let p = err_from_is_err_and c.from_residual-in_err-xid.result c.from_residual-in_err-xid.ensures.1 in
+    let is : c.from_residual-in_err-xid.result ≡ Err fault = p.1 ∙ ap (λ (f : AttemptFault). Err f) p.2 in
+    let goes : has_failed {T = Xid} (Err fault) ≡ false = sym (ap (λ (r : Result Xid AttemptFault). has_failed r) is) ∙ going in
+    let may_mid = both_ways (λ (k : Shape) (l : List (List ℕ)). MayWrite k l ask.own) shape (s.shape_of mid) blocks (s.blocks mid) (sym logs.same_shape) (sym (logs.blocks told refl)) may in
+    let why : (seg : ℕ) × (fault ≡ NoSlot seg) × (ask.own ≡ None) × LacksSlot (s.shape_of mid) (s.blocks mid) seg = c.in_err-xid.ensures.refused told may_mid goes in
+    let lacks = both_ways (λ (k : Shape) (l : List (List ℕ)). LacksSlot k l why.0) (s.shape_of mid) shape (s.blocks mid) blocks logs.same_shape (logs.blocks told refl) why.3 in
+    let some : ¬ AreOpen (home_entry (home_of copy)) = elim c.else-is_none.branch [
+      | else-is_none-via-then-is_none+else-are_open w ↦ w.are_open.ensures.other w.if-are_open.false
+      | else-is_none-via-else-is_none w ↦
+          let has : is_some ask.own ≡ true = c.is_none.ensures ∙ ap not w.if-is_none.false in
+          let never : false ≡ true = sym (ap is_some why.2) ∙ has in
+          absurd cc
+    ] in
+    let left : ¬ LacksEntry (home_for shape blocks ask) None = subst (λ (h : Home). ¬ LacksEntry h None) home some in
+    let takes = subst (λ (h : Home). TakesWrite h (adds_in h ask) ask.key) home c.in_ok-cell.ensures.takes in
+    subst (λ (r : Result Xid AttemptFault). IfErr r (HasCause shape blocks ask logged)) (sym is)
+    (subst (HasCause shape blocks ask logged) (sym why.1) (why.2, takes, left, lacks))
 
 pub returns-in_default-clause-cause : goal.returns-in_default-clause-cause
 returns-in_default-clause-cause g c told young may going =
@@ -73,12 +113,9 @@ returns-in_default-clause-cause g c told young may going =
     ∙ ap (λ (b : ℕ). cleaned_home (env_of shape blocks).look (home_of (block_of blocks b))) number in
     let young_mid = both_ways AreYoung shape (s.shape_of mid) blocks (s.blocks mid) (sym logs.same_shape) (sym (logs.blocks told refl)) young in
     let writer = both_ways (λ (k : Shape) (l : List (List ℕ)). IsWriterOf k l ask.own x ready) (s.shape_of mid) shape (s.blocks mid) blocks logs.same_shape (logs.blocks told refl) (c.in_ok-xid.ensures.writer told young_mid) in
-    let none = none_agrees (entry_at copy) (home_entry (home_of copy)) (λ j lt. sym (entry_read copy j free_entry lt)) x c.in_default.ensures in (
-      x,
-      ready,
-      writer,
-      subst (λ (h : Home). TakesWrite h (adds_in h ask) ask.key × HasNoChoice (home_entry h) x) home (c.in_ok-cell.ensures.takes, none),
-    )
+    let none = none_agrees (entry_at copy) (home_entry (home_of copy)) (λ j lt. sym (entry_read copy j free_entry lt)) x c.in_default.ensures in
+    subst (λ (h : Home). TakesWrite h (adds_in h ask) ask.key × LacksEntry h ask.own) home
+    (c.in_ok-cell.ensures.takes, no_entry shape blocks (home_of copy) ask.own x ready writer none)
 
 pub returns-in_err-put_change-clause-cause : goal.returns-in_err-put_change-clause-cause
 returns-in_err-put_change-clause-cause g c told young may going =
@@ -105,12 +142,8 @@ returns-in_err-put_change-clause-cause g c told young may going =
     let logged = s.lsn old in
     let p = err_from_is_err_and c.from_residual-in_err-put_change.result c.from_residual-in_err-put_change.ensures.1 in
     let is : c.from_residual-in_err-put_change.result ≡ Err fault = p.1 ∙ ap (λ (f : AttemptFault). Err f) p.2 in
-    subst (λ (r : Result Xid AttemptFault). IfErr r (HasCause shape blocks ask logged)) (sym is) (
-      x,
-      ready,
-      writer,
-      subst (λ (f : AttemptFault). Refuses f (home_for shape blocks ask) (adds_for shape blocks ask) ask.key x ready logged) (sym full.1) (takes, full.2, refl, full.3),
-    )
+    subst (λ (r : Result Xid AttemptFault). IfErr r (HasCause shape blocks ask logged)) (sym is)
+    (subst (HasCause shape blocks ask logged) (sym full.1) (x, ready, writer, (takes, full.2, refl, full.3)))
 
 pub returns-then-logged-ge-WORN-clause-cause : goal.returns-then-logged-ge-WORN-clause-cause
 returns-then-logged-ge-WORN-clause-cause g c told young may going =

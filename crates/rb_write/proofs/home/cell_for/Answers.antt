@@ -31,7 +31,7 @@ module _ (block : List ℕ) (ask : Ask) (none : IsNowhere (is_keyed ask.key) (ho
 
   full_refuses : (o : Option ℕ) → IfNone o (IsNowhere is_free (home_of block).cells) → IfErr (ok_or o BlockFull) (λ fault. HomeRefuses fault (home_of block) (adds_in (home_of block) ask) ask.key)
   full_refuses (Some c) full = tt
-  full_refuses None full = λ x ready logged. (adds, (λ k first is. first_or_nowhere (is_keyed ask.key) (home_of block).cells k first none), record { none_keyed = none; none_free = full })
+  full_refuses None full = (adds, (λ k first is. first_or_nowhere (is_keyed ask.key) (home_of block).cells k first none), record { none_keyed = none; none_free = full })
 
 pub returns-then-makes_row-clause-cell : goal.returns-then-makes_row-clause-cell
 returns-then-makes_row-clause-cell c =
@@ -55,7 +55,7 @@ returns-then-makes_row-clause-refused c =
     subst (λ (r : Result ℕ AttemptFault). IfErr r (λ fault. HomeRefuses fault (home_of block) (adds_in (home_of block) ask) ask.key)) (sym c.ok_or.ensures.value) (full_refuses block ask c.in_default.ensures.none adds c.free_cell.result c.free_cell.ensures.none)
 
 pub returns-in-true-true-clause-refused : goal.returns-in-true-true-clause-refused
-returns-in-true-true-clause-refused c x ready logged =
+returns-in-true-true-clause-refused c =
     let found = c.in-Some.ensures.found in
     let state = c.front-present.result.state in
     let read = cell_read c.args.home.now c.in-Some.c empty_cell found.within in
@@ -63,7 +63,7 @@ returns-in-true-true-clause-refused c x ready logged =
     (adds ∙ sym c.in-true-true.ensures, (c.in-Some.c, found, ap (λ (y : Cell). y.state) read ∙ sym c.front-present.ensures.state ∙ eqb-true state ROW c.in-true-true.is-1))
 
 pub returns-in-false-false-clause-refused : goal.returns-in-false-false-clause-refused
-returns-in-false-false-clause-refused c x ready logged =
+returns-in-false-false-clause-refused c =
     let home = home_of c.args.home.now in
     let found = c.in-Some.ensures.found in
     let state = c.front-present.result.state in

@@ -2,14 +2,8 @@ use Rattle.std.proofs.Common.{IfOk, Option, inr, sym, subst}
 use Rattle.std.proofs.lemmas.Result.{IfOk-weaker}
 use Rattle.rb_base.specs.declared.ids.Xid.{Xid}
 use Rattle.rb_segment.specs.Header.{header_of}
-use Rattle.rb_write.specs.Asks.{IsWriterOf, MayWrite}
+use Rattle.rb_write.specs.Asks.{IsWriterOf}
 use Rattle.rb_write.proofs.segment.writer.Goals as goal
-
-pub returns-in-None-clause-failed : goal.returns-in-None-clause-failed
-returns-in-None-clause-failed g c told may =
-    let s = g.S.Store in
-    let old = c.args.store.now in
-    c.new_writer.ensures.failed told (subst (MayWrite (s.shape_of old) (s.blocks old)) c.in-None.is may)
 
 pub returns-in-None-clause-writer : goal.returns-in-None-clause-writer
 returns-in-None-clause-writer g c told young =
