@@ -19,9 +19,9 @@ import subprocess
 BUILT = pathlib.Path(__file__).resolve().parent.parent / "crates" / "rbsh" / "out" / "rbsh"
 PROGRAM = os.environ.get("RBSH") or str(BUILT)
 # The commands that name no session.
-ALONE = ("sessions", "marks", "flush", "checkpoint")
+ALONE = ("sessions", "marks", "flush", "sweep", "checkpoint")
 # The first words of all replies that refuse nothing. A `get` is also answered "not found", which is no refusal.
-DONE = {"ok", "committed", "numbered", "flushed", "row", "end", "waits", "segment", "session"}
+DONE = {"ok", "committed", "numbered", "flushed", "swept", "row", "end", "waits", "segment", "session"}
 
 # What a session has under way: how many changes and cursors, its mode, and the number of the session for which it waits.
 UnderWay = collections.namedtuple("UnderWay", ["changes", "cursors", "mode", "waits"])
@@ -95,7 +95,7 @@ class Session:
         with them are kept for these: a commit or rollback is followed by the writes that waited for it."""
         word, *rest = line.split(" ", 1)
         if word in ALONE:
-            raise ValueError(f"'{word}' names no session: the store is asked for it, by store.ask({word!r})")
+            raise ValueError(f"'{word}' names no session: the store is asked for it, by store.ask({line!r})")
         own = []
         for reply in self.store.ask(" ".join([word, str(self.number), *rest])):
             number, words = reply.split(" ", 1)

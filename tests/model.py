@@ -1,6 +1,6 @@
-"""What right replies are: a second machine of lines, replies, rows, books, slot entries and copies of homes, by what is told
-of the machine in docs/COMMANDS.md, docs/MODEL.md and docs/UNDO.md. It knows no bytes of a block and no file, and shares nothing
-with the program or with tools/. tests/model_check compares it with the program.
+"""What right replies are: a second machine of lines, replies, rows, books, slot entries, copies of homes and dead
+transactions, by what is told of the machine in docs/COMMANDS.md, docs/MODEL.md and docs/UNDO.md. It knows no bytes of a
+block and no file, and shares nothing with the program or with tools/. tests/model_check compares it with the program.
 
 All replies follow from the lines, but for one number: a `too old` tells what the segment concerned has lost, and where
 several are concerned in a home any of them may be told. So the machine is told what the program said, and takes that
@@ -25,7 +25,7 @@ COMMANDS = [
     ("delete", ID, ID, KEY), ("lock", ID, ID, KEY), ("get", ID, ID, KEY), ("set", ID, MODE), ("savepoint", ID, NAME),
     ("rollback", ID, NAME), ("rollback", ID), ("commit", ID), ("commit", ID, LATER), ("open", ID, NAME, ID, KEY, KEY),
     ("fetch", ID, NAME, COUNT), ("close", ID, NAME), ("cancel", ID), ("sessions",), ("marks",), ("flush",),
-    ("checkpoint",),
+    ("sweep", COUNT), ("checkpoint",),
 ]
 WRITES = ["insert", "update", "put", "delete", "lock"]
 FORMS = [(word, fields, re.compile(" ".join([word, *(pattern for pattern, _ in fields)]), re.ASCII))
@@ -114,6 +114,10 @@ class Book:
 
     def is_pinned(self):
         return any(self.turn_of(owner.start + 1) == self.oldest_turn for owner in self.running())
+
+    def is_taken(self):
+        """Whether each slot has an owner."""
+        return len(self.running()) == SLOTS
 
     def is_full(self):
         return self.needs_turn() and len(self.turns) == MOST_TURNS and self.is_pinned()
@@ -216,6 +220,33 @@ class Change:
         self.at, self.home, self.value, self.place, self.before = at, home, value, place, before
 
 
+class Live(collections.namedtuple("Live", ["change", "older", "count"])):
+    """The newest live change of a transaction, its older ones (None where there is none), and how many all are."""
+
+    __slots__ = ()
+
+    def __deepcopy__(self, _):
+        return self
+
+
+class Dead:
+    """A transaction that ran as the file was opened: its segment, slot and wrap there, and its live changes."""
+
+    def __init__(self, place, live):
+        self.place, self.live = place, live
+
+    @property
+    def count(self):
+        return self.live.count if self.live else 0
+
+    def writes_in(self, home):
+        """Whether a live change is of that home."""
+        live = self.live
+        while live and live.change.home != home:
+            live = live.older
+        return live is not None
+
+
 class Session:
     """A session's transaction and its open cursors. The transaction has its mode, with the number and rows of its
     snapshot where it has one of its own, its live changes, in order, its segment, slot and wrap there, and its
@@ -236,7 +267,7 @@ class Session:
     def keep(self, changes):
         """The live changes are these."""
         # The keys that they hold, what each of these has by them, and their homes.
-        self.changes, self.held, self.own, self.homes = [], set(), {}, set()
+        self.changes, self.held, self.own, self.homes, self.live = [], set(), {}, set(), None
         for change in changes:
             self.add(change)
 
@@ -246,6 +277,7 @@ class Session:
         if change.value is not Change.HELD:
             self.own[change.at] = change.value
         self.homes.add(change.home)
+        self.live = Live(change, self.live, len(self.changes))
 
 
 class Cursor:
@@ -275,11 +307,13 @@ class Waiter:
 
 
 class Moment:
-    """What a file has after some group of its log: its rows and number, its books, and what is under way. Also the
-    entries that the homes had before that group which it changed."""
+    """What a file has after some group of its log: its rows and number, its books, and what is under way: how many
+    groups put that back, and of each transaction its live changes, by its segment, slot and wrap. (Between groups that
+    an opening made these are left open.) Also the entries that the homes had before that group which it changed."""
 
-    def __init__(self, rows, number, books, owed, before):
+    def __init__(self, rows, number, books, owed, before, under_way):
         self.rows, self.number, self.books, self.owed, self.before = rows, number, tuple(books), owed, before
+        self.under_way = under_way
 
     def marks(self):
         return [(book.writes, book.lost) for book in self.books]
@@ -297,7 +331,7 @@ class Model:
 
     def __init__(self, tables, blocks, segments, log, copies=COPIES):
         self.tables, self.blocks, self.log = tables, blocks, log
-        self.moments = [Moment({}, 0, [Book() for _ in range(segments)], 0, {})]
+        self.moments = [Moment({}, 0, [Book() for _ in range(segments)], 0, {}, {})]
         # Of each home that was written, by its table and number, its entries; and of those that changed since the last
         # group what they were then.
         self.homes, self.before = {}, {}
@@ -314,9 +348,9 @@ class Model:
         self.moves, self.lasts = [0], [0]
         self.restart(0, 0)
 
-    def restart(self, groups, front):
+    def restart(self, groups, front, keeps=False):
         """Opens the file as it is after so many groups, of which so many stand in front of its head: what was under way
-        then is put back."""
+        then is put back, or is kept as dead transactions."""
         for moment in reversed(self.moments[groups + 1 :]):
             self.homes.update(moment.before)
         del self.moments[groups + 1 :]
@@ -335,18 +369,27 @@ class Model:
         # Of each home that this run has changed the last group that did.
         self.changed_by, self.copies = {}, Copies(self.copies.most)
         self.books = [book.copied() for book in left.books]
-        for book in self.books:
-            book.owners = [None] * SLOTS
         self.numbers = {transaction: n for transaction, n in self.numbers.items() if n <= self.number}
         self.cleanings = {group for group in self.cleanings if group <= groups}
         self.later = {group for group in self.later if group <= groups}
+        # By their slots, counted over all segments.
+        self.dead = {SLOTS * place[0] + place[1]: Dead(place, live)
+                     for place, live in sorted(left.under_way.items()) if keeps}
+        self.before = {}
+        if not keeps:
+            self.put_all_back(left)
+
+    def put_all_back(self, left):
+        """What was under way at that moment is put back."""
+        for book in self.books:
+            book.owners = [None] * SLOTS
         # In which order changes are put back is left open. The first such group stands for all of them.
         self.before = {home: entries for home, entries in self.homes.items() if any(map(self.runs, entries))}
         for home, entries in self.before.items():
             self.homes[home] = tuple(entry.below if self.runs(entry) else entry for entry in entries)
         for owed in range(left.owed - 1, -1, -1):
             self.make_room()
-            self.moments.append(Moment(self.rows, self.number, self.books, owed, self.before))
+            self.moments.append(Moment(self.rows, self.number, self.books, owed, self.before, {}))
             self.before = {}
 
     def begun(self):
@@ -387,9 +430,10 @@ class Model:
     def logged(self):
         return len(self.moments) - 1
 
-    def owed(self):
-        """How many groups put back what is under way: one for each live change, and one for each slot that is taken."""
-        return sum(len(session.changes) + (session.place is not None) for session in self.sessions.values())
+    def under_way_now(self):
+        """The transactions that run, each with its live changes."""
+        running = [*self.dead.values(), *(session for session in self.sessions.values() if session.place)]
+        return {it.place: it.live for it in running}
 
     def make_room(self):
         """Sees to it that the log has room for one more group. One slot stays free."""
@@ -399,7 +443,10 @@ class Model:
     def grow(self, home=None):
         """One group more, which changes a home, or none."""
         self.make_room()
-        self.moments.append(Moment(self.rows, self.number, self.books, self.owed(), self.before))
+        running = self.under_way_now()
+        # One group puts each live change back, and one frees each slot that is taken.
+        owed = sum((live.count if live else 0) + 1 for live in running.values())
+        self.moments.append(Moment(self.rows, self.number, self.books, owed, self.before, running))
         self.before = {}
         if home:
             self.changed_by[home] = self.logged
@@ -447,6 +494,8 @@ class Model:
             return [line.encode() for line in told if line]
         if word == "flush":
             return [self.flush().encode()]
+        if word == "sweep":
+            return [self.sweep(*parts).encode()]
         if word == "checkpoint":
             self.checkpoint()
             return [b"ok"]
@@ -546,6 +595,7 @@ class Model:
         if value is not None and len(value) > VALUE_BYTES:
             raise Refused("value too long")
         at, home = (table, key), (table, key % self.blocks)
+        self.clear_home(home)
         others = {number: other for number, other in self.sessions.items() if other is not session}
         for number, other in others.items():
             if at in other.held:
@@ -560,6 +610,8 @@ class Model:
         if sum(home in other.homes for other in others.values()) >= HOME_SESSIONS:
             raise Refused("slots full")
         segment = session.place[0] if session.place else self.begins_in()
+        if self.books[segment].is_full() or not session.place and self.books[segment].is_taken():
+            self.clear_segment(segment)
         book = self.books[segment]
         if book.is_full():
             raise Refused(f"rollback full {segment} {book.writes - min(owner.start for owner in book.running())}")
@@ -649,10 +701,48 @@ class Model:
         """Puts back the session's changes but for the first ones, the newest first."""
         session.cursors = {name: cursor for name, cursor in session.cursors.items() if cursor.seen <= kept}
         while len(session.changes) > kept:
-            change = session.changes.pop()
-            self.set_entry(change.home, change.place, change.before)
-            self.grow(change.home)
+            session.changes.pop()
+            self.take_back(session)
         session.keep(session.changes)
+
+    def take_back(self, transaction):
+        """Puts back the newest live change of a session or of a dead transaction."""
+        change, transaction.live, _ = transaction.live
+        self.set_entry(change.home, change.place, change.before)
+        self.grow(change.home)
+
+    # ---- Dead transactions
+
+    def take_dead(self, dead, most):
+        """Puts back the changes of a dead transaction, the newest first and so many at most, and frees its slot where
+        none is left. Gives how many."""
+        taken, (segment, slot, _) = min(most, dead.count), dead.place
+        for _ in range(taken):
+            self.take_back(dead)
+        if not dead.live:
+            del self.dead[SLOTS * segment + slot]
+            self.book(segment).owners[slot] = None
+            self.grow()
+        return taken
+
+    def sweep(self, most):
+        """Puts back so many changes of dead transactions at most, those of the lowest slots first."""
+        left = most
+        for dead in list(self.dead.values()):
+            left -= self.take_dead(dead, left)
+        return f"swept {most - left}"
+
+    def clear_home(self, home):
+        """The dead transactions that have a change in the home go whole, in the order of their entries there."""
+        for entry in self.entries(home):
+            for dead in [dead for dead in self.dead.values() if entry and dead.place == entry.transaction]:
+                if dead.writes_in(home):
+                    self.take_dead(dead, dead.count)
+
+    def clear_segment(self, segment):
+        """All dead transactions of the segment go whole."""
+        for dead in [dead for dead in self.dead.values() if dead.place[0] == segment]:
+            self.take_dead(dead, dead.count)
 
     # ---- Cursors
 

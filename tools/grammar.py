@@ -26,6 +26,7 @@ COMMANDS = {
     b"sessions": [],
     b"marks": [],
     b"flush": [],
+    b"sweep": ["N"],
     b"checkpoint": [],
 }
 
@@ -51,6 +52,7 @@ DOES = {
     b"sessions": "shows what each session has under way, and for whom it waits",
     b"marks": "shows how much undo each rollback segment has made and given up",
     b"flush": "makes all that waits durable, and tells the number of the last commit",
+    b"sweep": "undoes changes that earlier runs left under way, so many at most, and tells how many",
     b"checkpoint": "makes all durable, also what the next run undoes, brings all blocks home, and empties the log",
 }
 PARTS = {
@@ -64,7 +66,7 @@ PARTS = {
     "C": f"the name of a cursor: 1 to {NAME_BYTES} letters a to z, digits and _",
     "LO": "the lowest key of the range",
     "HI": "the highest key of the range",
-    "N": f"how many rows at most, 1 to {COUNT}",
+    "N": f"how many rows or changes at most, 1 to {COUNT}",
 }
 
 # The parts that are a word as it stands.
@@ -168,8 +170,10 @@ def with_session(line, session):
 
 
 def session_put(line, session):
-    """A line with the session's number put after its word."""
+    """A line with the session's number put after its word, where that is of a command which names a session."""
     word, *rest = line.split(b" ", 1)
+    if "S" not in COMMANDS.get(word, []):
+        return line
     return b" ".join([word, b"%d" % session, *rest])
 
 

@@ -5,7 +5,8 @@ use Rattle.rb_model.specs.Lines as lines
 use Rattle.rb_model.specs.Names.{name_text}
 use Rattle.rb_model.specs.Answers.{action_of}
 use Rattle.rb_script.specs.declared.command.Command.{Command}
-use Rattle.rb_script.specs.declared.command.Command.TheVariants.{Session, Marks, Sessions, Flush, Checkpoint}
+use Rattle.rb_script.specs.declared.command.Command.TheVariants.{Session, Marks, Sessions, Flush, Sweep}
+use Rattle.rb_script.specs.declared.command.Command.TheVariants.{Checkpoint}
 use Rattle.rb_script.specs.declared.command.Request.{Request}
 use Rattle.rb_script.specs.declared.command.Request.TheVariants.{Write, Lock, Commit, CommitLater, Rollback, Set}
 use Rattle.rb_script.specs.declared.command.Request.TheVariants.{Savepoint, RollbackTo, OpenCursor, Fetch}
@@ -33,4 +34,5 @@ command_of (Session s request) = asked_by s request
 command_of Marks = lines.MarksLine
 command_of Sessions = lines.SessionsLine
 command_of Flush = lines.FlushLine
+command_of (Sweep changes) = lines.SweepLine changes
 command_of Checkpoint = lines.CheckpointLine

@@ -4,8 +4,8 @@ use Rattle.std.specs.Prelude.{List, [], ◌∷◌, length, None, Some}
 use Rattle.rb_model.specs.Lines.{reply_text, bad_line_text}
 use Rattle.rb_model.specs.Calls as answers
 use Rattle.rb_script.specs.declared.reply.Reply.{Reply}
-use Rattle.rb_script.specs.declared.reply.Reply.TheVariants.{Done, Committed, Numbered, Flushed, Row, End, Absent}
-use Rattle.rb_script.specs.declared.reply.Reply.TheVariants.{Waits, Refused, Marks, Shown, Nothing, BadLine}
+use Rattle.rb_script.specs.declared.reply.Reply.TheVariants.{Done, Committed, Numbered, Flushed, Swept, Row, End}
+use Rattle.rb_script.specs.declared.reply.Reply.TheVariants.{Absent, Waits, Refused, Marks, Shown, Nothing, BadLine}
 
 -- the line with its LF, if there is one
 abbrev pub text_of_reply : Reply → List ℕ
@@ -13,6 +13,7 @@ text_of_reply (Done s) = reply_text s answers.Done
 text_of_reply (Committed s number) = reply_text (Some s) (answers.Committed number)
 text_of_reply (Numbered s number) = reply_text (Some s) (answers.Numbered number)
 text_of_reply (Flushed number) = reply_text None (answers.Flushed number)
+text_of_reply (Swept changes) = reply_text None (answers.Swept changes)
 text_of_reply (Row s key value) = reply_text (Some s) (answers.Given key value.now)
 text_of_reply (End s) = reply_text (Some s) answers.End
 text_of_reply (Absent s) = reply_text (Some s) answers.Absent

@@ -3,6 +3,7 @@ use Rattle.std.specs.Prelude.{◌≡◌, ◌≢◌, ℕ, Bool, true, false, not,
 use Rattle.std.specs.List.{list_all, AllByRecursion}
 use Rattle.rb_model.specs.Lines.{Field, Id, Key, Count, Named, Valued, Moded, Later, IsField, fields_text}
 use Rattle.rb_model.specs.Lines.{Word, InsertWord, UpdateWord, PutWord, DeleteWord, LockWord, GetWord}
+use Rattle.rb_model.specs.Lines.{SweepWord}
 
 -- no byte is a space
 abbrev pub is_word : List ℕ → Bool
@@ -17,6 +18,11 @@ names_key DeleteWord = true
 names_key LockWord = true
 names_key GetWord = true
 names_key _ = false
+
+-- the word is that of a command which has fields and names no session
+abbrev pub is_sweep : Word → Bool
+is_sweep SweepWord = true
+is_sweep _ = false
 
 -- a field without what it holds
 pub data FieldKind : Type 0 where

@@ -16,6 +16,8 @@ pub enum Command<'a> {
     Sessions,
     /// `flush`.
     Flush,
+    /// `sweep K`: up to so many changes of dead transactions are put back, 1 to 1,000,000.
+    Sweep { changes: u32 },
     /// `checkpoint`.
     Checkpoint,
 }
@@ -87,7 +89,8 @@ impl Command<'_> {
     {
         match self {
             Command::Session { s, request: _ } => Some(*s),
-            Command::Marks | Command::Sessions | Command::Flush | Command::Checkpoint => None,
+            Command::Marks | Command::Sessions => None,
+            Command::Flush | Command::Sweep { changes: _ } | Command::Checkpoint => None,
         }
     }
 }

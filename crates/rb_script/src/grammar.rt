@@ -4,8 +4,8 @@ ghost use Rattle.std.specs.List.{AllByRecursion};
 ghost use Rattle.rb_model.specs.Lines.{Spells, SpellsNone, IsField, Word, fields_text, word_text};
 ghost use Rattle.rb_model.specs.Names.{name_text};
 ghost use Rattle.rb_script.specs.Commands.{asked_by, command_of};
-ghost use Rattle.rb_script.specs.Words.{NoFields, is_word, key_fields, key_kinds, later_fields, later_kinds};
-ghost use Rattle.rb_script.specs.Words.{name_fields, name_kinds, names_key, row_fields, row_kinds};
+ghost use Rattle.rb_script.specs.Words.{NoFields, is_sweep, is_word, key_fields, key_kinds, later_fields};
+ghost use Rattle.rb_script.specs.Words.{later_kinds, name_fields, name_kinds, names_key, row_fields, row_kinds};
 
 use crate::command::{Command, Request};
 use crate::words::{
@@ -229,9 +229,11 @@ fn command_alone(word: &[u8]) -> Option<Command<'_>>
     None
 }
 
-// What the line asks for that is this word, a space and these fields, where the word is none of a key's
+// What the line asks for that is this word, a space and these fields, where the word names a session and
+// is none of a key's
 fn request_without_key<'a>(word: &[u8], fields: &'a [u8]) -> Option<(u16, Request<'a>)>
     requires word { IsTrue (is_word word.now) }
+    requires session { (w : Word) → word.now ≡ word_text w → is_sweep w ≡ false }
     requires other { (w : Word) → word.now ≡ word_text w → names_key w ≡ false }
     ensures found { IfSome result (λ p. Spells (word.now ++ 32 ∷ fields.now) (asked_by p.0 p.1)) }
     ensures none { IfNone result (SpellsNone (word.now ++ 32 ∷ fields.now)) }
@@ -263,9 +265,19 @@ fn request_without_key<'a>(word: &[u8], fields: &'a [u8]) -> Option<(u16, Reques
     None
 }
 
-// What the line asks for that is this word, a space and these fields
+// The command of the line that is `sweep`, a space and these fields
+fn sweep_of(fields: &[u8]) -> Option<Command<'_>>
+    ensures found { IfSome result (λ command. Spells (codes "sweep" ++ 32 ∷ fields.now) (command_of command)) }
+    ensures none { IfNone result (SpellsNone (codes "sweep" ++ 32 ∷ fields.now)) }
+{
+    let changes = count_of(fields)?;
+    Some(Command::Sweep { changes })
+}
+
+// What the line asks for that is this word, a space and these fields, where the word names a session
 fn request_of<'a>(word: &[u8], fields: &'a [u8]) -> Option<(u16, Request<'a>)>
-    requires { IsTrue (is_word word.now) }
+    requires word { IsTrue (is_word word.now) }
+    requires session { (w : Word) → word.now ≡ word_text w → is_sweep w ≡ false }
     ensures found { IfSome result (λ p. Spells (word.now ++ 32 ∷ fields.now) (asked_by p.0 p.1)) }
     ensures none { IfNone result (SpellsNone (word.now ++ 32 ∷ fields.now)) }
 {
@@ -298,6 +310,9 @@ pub fn parse(line: &[u8]) -> Option<Command<'_>>
     let Some((word, fields)) = split(line) else {
         return command_alone(line);
     };
+    if word == b"sweep".as_slice() {
+        return sweep_of(fields);
+    }
     let (s, request) = request_of(word, fields)?;
     Some(Command::Session { s, request })
 }

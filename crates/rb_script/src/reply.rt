@@ -20,6 +20,8 @@ pub enum Reply<'a> {
     Numbered { s: u16, number: u64 },
     /// `flushed NUMBER`.
     Flushed { number: u64 },
+    /// `swept CHANGES`.
+    Swept { changes: u32 },
     /// `S row KEY VALUE`.
     Row { s: u16, key: u64, value: &'a [u8] },
     /// `S end`.
@@ -175,6 +177,7 @@ fn put_reply<const SIZE: usize>(reply: &Reply<'_>, into: &mut ArrayVec<u8, SIZE>
         Reply::Committed { s, number } => put_numbered(Some(s), b"committed", number, into),
         Reply::Numbered { s, number } => put_numbered(Some(s), b"numbered", number, into),
         Reply::Flushed { number } => put_numbered(None, b"flushed", number, into),
+        Reply::Swept { changes } => put_numbered(None, b"swept", u64::from(changes), into),
         Reply::Row { s, key, value } => {
             put_numbered(Some(s), b"row", key, into);
             into.push(b' ');

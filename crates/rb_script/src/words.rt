@@ -40,7 +40,7 @@ fn is_count(number: u64) -> bool
     (1..=1_000_000).contains(&number)
 }
 
-/// The number of rows to fetch, 1 to 1,000,000, that the text spells.
+/// The number of rows to fetch or of changes to sweep, 1 to 1,000,000, that the text spells.
 pub fn count_of(text: &[u8]) -> Option<u32>
     ensures found { IfSome result (λ n. (text.now ≡ decimal n) × (1 ≤ n) × (n ≤ 1000000)) }
     ensures none { IfNone result ((n : ℕ) → 1 ≤ n → n ≤ 1000000 → text.now ≢ decimal n) }

@@ -100,6 +100,16 @@ marks 0
 flush 1
 flush\x20
 flushes
+sweep
+sweep\x20
+sweep 0
+sweep 01
+sweep 1000001
+sweep 1 1
+sweep 1\x20
+sweep  1
+sweep a
+sweeps 1
 sessions 1
 sessions\x20
 put 1 1 1
@@ -158,6 +168,7 @@ fn numbers_of(command: &Command<'_>) -> (u8, [u64; 4]) {
         Command::Marks => (b'm', [0; 4]),
         Command::Sessions => (b'y', [0; 4]),
         Command::Flush => (b'h', [0; 4]),
+        Command::Sweep { changes } => (b'b', [u64::from(*changes), 0, 0, 0]),
         Command::Checkpoint => (b'p', [0; 4]),
     }
 }
@@ -207,7 +218,7 @@ fn spells(line: &[u8], letter: u8, numbers: [u64; 4], text: &[u8]) -> bool {
 
 #[test]
 fn lines_that_spell_a_command(rt: HostRuntime) {
-    let rows: [(&[u8], u8, [u64; 4], &[u8]); 22] = [
+    let rows: [(&[u8], u8, [u64; 4], &[u8]); 24] = [
         (
             b"insert 1 2 18446744073709551615 #!",
             b'i',
@@ -256,6 +267,8 @@ fn lines_that_spell_a_command(rt: HostRuntime) {
         (b"marks", b'm', [0, 0, 0, 0], b""),
         (b"sessions", b'y', [0, 0, 0, 0], b""),
         (b"flush", b'h', [0, 0, 0, 0], b""),
+        (b"sweep 1", b'b', [1, 0, 0, 0], b""),
+        (b"sweep 1000000", b'b', [1_000_000, 0, 0, 0], b""),
         (b"checkpoint", b'p', [0, 0, 0, 0], b""),
         (b"open 1 _0 65535 9 0", b'o', [1, 65535, 9, 0], b"_0"),
         (
@@ -288,7 +301,7 @@ fn texts_of_replies(rt: HostRuntime) {
     let value = [b'~'; 80];
     let longest =
         b"1 row 1 ~~~~~~~~~~~~~~~~~~~~~~~~~~~~~~~~~~~~~~~~~~~~~~~~~~~~~~~~~~~~~~~~~~~~~~~~~~~~~~~~\n";
-    let rows: [(Reply<'_>, &[u8]); 13] = [
+    let rows: [(Reply<'_>, &[u8]); 15] = [
         (Reply::Done { s: Some(1) }, b"1 ok\n"),
         (Reply::Done { s: None }, b"ok\n"),
         (
@@ -308,6 +321,11 @@ fn texts_of_replies(rt: HostRuntime) {
         (
             Reply::Flushed { number: u64::MAX },
             b"flushed 18446744073709551615\n",
+        ),
+        (Reply::Swept { changes: 0 }, b"swept 0\n"),
+        (
+            Reply::Swept { changes: 1_000_000 },
+            b"swept 1000000\n",
         ),
         (
             Reply::Row {
