@@ -16,7 +16,7 @@ use Rattle.rb_model.specs.NextState.{written}
 use Rattle.rb_model.specs.NextState as machine
 use Rattle.rb_model.specs.Rows.{TableRow, last_scn}
 use Rattle.rb_model.specs.State as model
-use Rattle.rb_model.specs.State.{State, cursor_of, is_table, opened, session_of, session_own}
+use Rattle.rb_model.specs.State.{Session, State, cursor_of, is_table, opened, session_count, session_of, session_own}
 use Rattle.rb_model.specs.declared.mode.Mode.{Mode}
 use Rattle.rb_base.specs.declared.shape.Shape.{Shape}
 use Rattle.law_read.specs.Copies.{IsTold}
@@ -33,11 +33,11 @@ use Rattle.law_sessions.specs.Scan.{IsNextIn, NoneIn}
 use Rattle.law_sessions.specs.Views.{IsCursor, Remembers, history, home_in}
 use Rattle.law_home.specs.Walk.{Env, Rows}
 
--- A new table remembers the state that a file opens to, where no session has a slot.
+-- A new table remembers the state that a file opens to, where none of the sixteen sessions has a slot.
 abbrev pub FirstIsRemembered : Type 0
-FirstIsRemembered = (shape : Shape) (number : ℕ) (rows : List TableRow) (books : List Book) (env : Env)
-    → ((s : ℕ) → HasNoSlot (opened shape number rows books) s)
-    → Remembers (opened shape number rows books) [] env (replicate SESSIONS fresh)
+FirstIsRemembered = (shape : Shape) (number : ℕ) (rows : List TableRow) (books : List Book) (dead : List Session)
+    (env : Env) → ((s : ℕ) → s ≤ session_count → HasNoSlot (opened shape number rows books dead) s)
+    → Remembers (opened shape number rows books dead) [] env (replicate SESSIONS fresh)
 
 -- A write of session s that is done, after which its transaction has the id x.
 abbrev pub WrittenIsRemembered : Type 0

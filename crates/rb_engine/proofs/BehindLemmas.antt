@@ -4,7 +4,7 @@ use Rattle.rb_base.specs.Logs.{Laws, Logs, no_logs}
 use Rattle.rb_base.specs.declared.shape.Shape.{Shape}
 use Rattle.rb_base.specs.declared.store.Store.{Ghosts}
 use Rattle.rb_dead.proofs.Leads.{back_joined}
-use Rattle.rb_engine.specs.Behind.{Behind, Led}
+use Rattle.rb_engine.specs.Behind.{Behind, IsWrite, Led}
 use Rattle.rb_engine.specs.Does.{Does, EngineView, Goes, Kept, Stands}
 use Rattle.rb_engine.specs.Makes.{Makes}
 use Rattle.rb_engine.specs.Worn.{CallNeedsLost}
@@ -88,7 +88,7 @@ module _ {S : Type 0} (s : Ghosts S) (laws : Laws s) where
   -- a call that puts back nothing
   pub behind_plain : {R : State → Type 0} (h : State) (call : Call) (answer : Answer) (old new : EngineView S) → Stands s h old → (h.stopped ≡ false → s.failed old.store ≡ false) → R h → Does s h call answer old new
       → (is_fault answer ≡ false → Makes h call answer (s.lsn new.store) (s.blocks old.store) (s.blocks new.store))
-      → (is_fault answer ≡ false → TellsLooks h.shape (s.blocks old.store) (s.blocks new.store))
+      → (IsWrite call → is_fault answer ≡ false → TellsLooks h.shape (s.blocks old.store) (s.blocks new.store))
       → ((scn lost : ℕ) → answer ≡ Refused (TooOld scn lost) → CallNeedsLost s h old call scn lost) → Behind s R h call answer old new
   behind_plain h call answer old new st runs here does makes tells lost = record {
     ready = h;

@@ -134,8 +134,8 @@ module _ {S : Type 0} (s : Ghosts S) (told : s.tells) (laws : Laws s) (h : State
   first_late : (n by : ℕ) → isolation_of h who ≡ isolation.Serializable n → late h.commits n table key ≡ Some by
       → first_of (write_tests h (s.lsn old.store) place.0 who table key action) Done ≡ Refused (refusals.CantSerialize n by)
   first_late n by serial is =
-      first_serial h (s.lsn old.store) place.0 who table key action others
-      ∙ ap (λ (l : List (Bool × Answer)). first_of (l ++ row_tests h (s.lsn old.store) place.0 who table key action) Done) (ap (λ (i : Isolation). serial_tests h.commits i table key) serial ∙ ap (refused_by n) is)
+      first_serial h (s.lsn old.store) place.0 0 who table key action others
+      ∙ ap (λ (l : List (Bool × Answer)). first_of (l ++ row_tests h (s.lsn old.store) place.0 0 who table key action) Done) (ap (λ (i : Isolation). serial_tests h.commits i table key) serial ∙ ap (refused_by n) is)
 
   step_serial : (why : Refusal) → is_disk_fault why ≡ false → IsRefusedLate h goes.xids (s.blocks old.store) who table key why → new.memory ≡ old.memory → Logs s old.store new.store [] true → Does s h (Write who table key action) (Refused why) old new
   step_serial (refusals.CantSerialize n by) other late memory logs =

@@ -15,7 +15,7 @@ use Rattle.rb_engine.proofs.LateLemmas.{attempt_not_old}
 use Rattle.rb_engine.proofs.MakesLemmas.{makes_refused, makes_written}
 use Rattle.rb_engine.proofs.RoomLemmas.{spare_told}
 use Rattle.rb_engine.proofs.TellsLemmas.{tells_logged, tells_written}
-use Rattle.rb_engine.proofs.WriteLemmas.{about, at_place, failed_is, step_done, step_failed, step_refused, the_failure}
+use Rattle.rb_engine.proofs.WriteLemmas.{about, failed_is, step_done, step_failed, step_refused, the_failure}
 use Rattle.law_crash.specs.Made.{GivesOne, WriteMade}
 use Rattle.rb_model.specs.Answers.{write_answer}
 use Rattle.rb_model.specs.Calls.{Action, Done, Refused, Write, early_tests, is_disk_fault, none_applies}
@@ -26,6 +26,7 @@ use Rattle.rb_model.specs.declared.wrote.Wrote.{Wrote}
 use Rattle.rb_model.specs.declared.wrote.Wrote.TheVariants as wrotes
 use Rattle.rb_sessions.specs.Kept.{kept_at, with_kept, wrote}
 use Rattle.law_blocks.specs.Standing.{logged_of}
+use Rattle.rb_steps.proofs.Somewhere.{in_segment}
 use Rattle.rb_steps.specs.Steps.{IsAbout, IsRefusedAs, MayWrite, refusal_of}
 use Rattle.rb_rollback.specs.Backs.{SameStore}
 
@@ -66,7 +67,7 @@ module _ {S : Type 0} (s : Ghosts S) (told : s.tells) (laws : Laws s) (h : State
         (refl, (x.seg, x.slot, made.in_slot, spare_told h (logged_of h.shape (s.blocks old.store)) x.seg who table key action Done refl (λ seg since is. cc) made.granted))
         (step_done s told laws h old st on who table key action there early new stays x one sessions waits scn stopped copies dead tabled)
         (λ fine. makes_written s told h (st.goes on).xids who table key action x (s.lsn new.store) old.store new.store one)
-        (λ fine. tells_written s told h (st.goes on).xids who table key action x old.store new.store one)
+        (λ w fine. tells_written s told h (st.goes on).xids who table key action x old.store new.store one)
         (λ scn lost is. cc))
 
     refused_plain : (why : Refusal) → is_disk_fault why ≡ false → ((scn lost : ℕ) → why ≡ Rattle.rb_model.specs.declared.refusal.Refusal.TheVariants.TooOld scn lost → ⊥) → HasPlace h who (Refused why) → Logs s old.store new.store [] true → Does s h (Write who table key action) (Refused why) old new → Plain (Err why) new
@@ -74,13 +75,13 @@ module _ {S : Type 0} (s : Ghosts S) (told : s.tells) (laws : Laws s) (h : State
         let same = logs.blocks told refl in
         behind_plain s laws h (Write who table key action) (Refused why) old new st (λ _. runs) (refl, place) does
         (λ fine. makes_refused h (Write who table key action) (s.lsn new.store) (s.blocks old.store) (s.blocks new.store) same why (λ scn lost is. same))
-        (λ fine. tells_logged s told h.shape old.store new.store logs)
+        (λ w fine. tells_logged s told h.shape old.store new.store logs)
         (λ scn lost is. absurd (young scn lost (let same : why ≡ Rattle.rb_model.specs.declared.refusal.Refusal.TheVariants.TooOld scn lost = cc in same)))
 
     failed_plain : Does s h (Write who table key action) (Refused DiskFault) old new → Plain (Err DiskFault) new
     failed_plain does =
         behind_plain s laws h (Write who table key action) (Refused DiskFault) old new st (λ _. runs) (refl, tt) does
-        (λ fine. let clash : true ≡ false = fine in absurd cc) (λ fine. let clash : true ≡ false = fine in absurd cc)
+        (λ fine. let clash : true ≡ false = fine in absurd cc) (λ w fine. let clash : true ≡ false = fine in absurd cc)
         (λ scn lost is. cc)
 
     refused_as : (fault : AttemptFault) → is_disk_fault (refusal_of fault) ≡ false → new.memory ≡ old.memory → Logs s old.store new.store [] true
@@ -89,10 +90,10 @@ module _ {S : Type 0} (s : Ghosts S) (told : s.tells) (laws : Laws s) (h : State
     refused_as (attempts.NoSlot seg) other memory logs why = inr (seg, refl, record { none = why.0; fewest = why.1; full = why.2; passed = why.3 })
     refused_as (attempts.RollbackFull seg since) other memory logs why =
         inl (refused_plain (RollbackFull seg since) other (attempt_not_old (attempts.RollbackFull seg since)) tt logs
-        (step_refused s told laws h old st on who table key action there early new stays (RollbackFull seg since) other why.0.seg (at_place h who why.0.seg why.0.slot why.1) why.2 memory logs))
+        (step_refused s told laws h old st on who table key action there early new stays (RollbackFull seg since) other why.0.seg (in_segment h who why.0.seg why.0.slot why.1) why.2 memory logs))
     refused_as attempts.WornOut other memory logs why =
         inl (refused_plain (refusal_of attempts.WornOut) other (attempt_not_old attempts.WornOut) (why.0.seg, why.0.slot, why.1, spare_told h (s.lsn old.store) why.0.seg who table key action (Refused (refusal_of attempts.WornOut)) refl (λ seg since is. cc) why.2) logs
-        (step_refused s told laws h old st on who table key action there early new stays (refusal_of attempts.WornOut) other why.0.seg (at_place h who why.0.seg why.0.slot why.1) why.2 memory logs))
+        (step_refused s told laws h old st on who table key action there early new stays (refusal_of attempts.WornOut) other why.0.seg (in_segment h who why.0.seg why.0.slot why.1) why.2 memory logs))
     refused_as attempts.Duplicate other memory logs why = inl (refused_plain (refusal_of attempts.Duplicate) other (attempt_not_old attempts.Duplicate) tt logs (step_refused s told laws h old st on who table key action there early new stays (refusal_of attempts.Duplicate) other why.0 why.1 why.2 memory logs))
     refused_as attempts.NotFound other memory logs why = inl (refused_plain (refusal_of attempts.NotFound) other (attempt_not_old attempts.NotFound) tt logs (step_refused s told laws h old st on who table key action there early new stays (refusal_of attempts.NotFound) other why.0 why.1 why.2 memory logs))
     refused_as attempts.BlockFull other memory logs why = inl (refused_plain (refusal_of attempts.BlockFull) other (attempt_not_old attempts.BlockFull) tt logs (step_refused s told laws h old st on who table key action there early new stays (refusal_of attempts.BlockFull) other why.0 why.1 why.2 memory logs))

@@ -6,10 +6,11 @@ use Rattle.rb_base.specs.Logs.{Laws}
 use Rattle.rb_base.specs.declared.store.Store.{Ghosts}
 use Rattle.rb_base.specs.declared.ids.Xid.{Xid}
 use Rattle.rb_sessions.specs.declared.sessions.TheConstants.{SESSIONS}
-use Rattle.law_blocks.specs.Standing.{homes_of, segments_of}
+use Rattle.law_blocks.specs.Standing.{env_of, homes_of, segments_of}
+use Rattle.law_write.specs.Verdict.{IsOwnId}
 use Rattle.law_blocks.specs.States.{BlocksStand}
 use Rattle.law_write.proofs.Presence.{owner_within}
-use Rattle.law_write.proofs.Stands.{stood_of}
+use Rattle.law_write.proofs.StoodBlocks.{stood_of}
 use Rattle.law_dead.proofs.Fewest.{fewest_stays}
 use Rattle.law_dead.proofs.Owing.{owes_none, segment_calm}
 use Rattle.law_dead.proofs.Room.{cleared_living, holder_stays, key_tests_stay, none_living}
@@ -17,7 +18,7 @@ use Rattle.rb_engine.specs.Behind.{Behind, HasClearHome, HasPlace, LacksSlot, Le
 use Rattle.rb_engine.specs.Does.{Does, EngineView, Goes, Kept, Stands}
 use Rattle.rb_engine.proofs.BehindLemmas.{behind_after, behind_as, led_on}
 use Rattle.rb_engine.proofs.RoomLemmas.{IsFullAt, asks_room, early_stay, full_answer, room_calm, room_made, room_there}
-use Rattle.rb_engine.proofs.WriteLemmas.{about, at_place}
+use Rattle.rb_engine.proofs.WriteLemmas.{about}
 use Rattle.rb_model.proofs.DeadLemmas.{segment_rest}
 use Rattle.rb_model.specs.Answers.{write_answer}
 use Rattle.rb_model.specs.Book.{Owner, book_at, is_full, owners, slot_owner}
@@ -34,14 +35,15 @@ use Rattle.rb_model.specs.declared.refusal.Refusal.TheVariants.{RollbackFull, To
 use Rattle.rb_model.specs.declared.wrote.Wrote.{Wrote}
 use Rattle.rb_model.specs.declared.wrote.Wrote.TheVariants as wrotes
 use Rattle.rb_sessions.specs.Kept.{kept_at}
-use Rattle.rb_steps.proofs.Somewhere.{living_leave, slot_is_room, no_slot_lacks}
+use Rattle.rb_steps.proofs.Somewhere.{in_segment, slot_is_room}
+use Rattle.rb_steps.proofs.May.{living_leave}
 use Rattle.rb_steps.specs.Steps.{MayWrite, NotLate, NotOthers}
 
 -- The state that is ready for an answer of a write that was tried once: with that answer, that it has room is said of
 -- the state itself, where it has a place.
 module _ (h : State) (xids : List Xid) (blocks : List (List ℕ)) (stand : BlocksStand h xids blocks) (s : ℕ) where
   has_room : (g : ℕ) × (i : ℕ) × WritesIn h s g i × (is_full (book_at h.books g) ≡ false) → HasRoom h s h
-  has_room (g, i, within, spare) = room_there h s g (at_place h s g i within) (slot_is_room h xids blocks s g i stand within spare)
+  has_room (g, i, within, spare) = room_there h s g (in_segment h s g i within) (slot_is_room h xids blocks stand s g i within spare)
 
   once_ready : (r : Result Wrote Refusal) → ((seg since : ℕ) → r ≡ Err (RollbackFull seg since) → ⊥) → HasPlace h s (write_answer r) → Readies s h (write_answer r) h
   once_ready (Ok wrotes.Done) other place = has_room place
@@ -73,6 +75,19 @@ module _ (h : State) (xids : List Xid) (blocks : List (List ℕ)) (stand : Block
 -- A session lacks room in a segment that is full, or has no slot left for it.
 full_lacks : (h : State) (s g : ℕ) → is_full (book_at h.books g) ≡ true → lacks_room s (book_at h.books g) ≡ true
 full_lacks h s g full = rw full refl
+
+-- the living leave a slot of a segment to a session that has none
+left_free : {S : Type 0} {s : Ghosts S} {who : ℕ} → (h : State) (e : EngineView S) → (st : Stands s h e) → (on : h.stopped ≡ false) → (1 ≤ who) × (who ≤ SESSIONS) → HasNoSlot h who → (g : ℕ) → g < length h.books
+    → ((i : ℕ) (o : Owner) → i < 16 → slot_owner (book_at h.books g) i ≡ Some o → o.session ≤ session_count) → owners (book_at h.books g) ≤ 15
+left_free {S} {s} {who} h e st on there none g within living =
+    let goes = st.goes on in
+    let id = (goes.remembers.each who there.0 there.1).id in
+    let own : (kept_at e.memory.sessions who).own ≡ None = no_own (kept_at e.memory.sessions who).own id in
+    living_leave h goes.xids (s.blocks e.store) who (kept_at e.memory.sessions who).own (record { stand = goes.holds.blocks; session = there.0; id = id }) there.1 own g living within
+  where
+    no_own : (o : Option Xid) → IsOwnId h (env_of h.shape (s.blocks e.store)) who o → o ≡ None
+    no_own None id = refl
+    no_own (Some x) id = let f = id.owned x refl in absurd (none f.0 f.1.owner f.1.at f.1.session)
 
 module _ {S : Type 0} (s : Ghosts S) (laws : Laws s) (h : State) (old : EngineView S) (st : Stands s h old) (on : h.stopped ≡ false) (who table key : ℕ) (action : Action)
     (there : (1 ≤ who) × (who ≤ SESSIONS)) (early : none_applies (early_tests h (Write who table key action)) ≡ true) (clear : HasClearHome h table key) where
@@ -115,7 +130,7 @@ module _ {S : Type 0} (s : Ghosts S) (laws : Laws s) (h : State) (old : EngineVi
         let cut = cut_by mid seg since (inl b) in
         behind_as s laws h (Write who table key action) (Refused (RollbackFull seg since)) old mid (λ x is. subst (Readies who h (Refused (RollbackFull seg since))) (sym is.0) (room_calm h who seg cut.at (segment_calm h seg calm (segment_in seg cut.at)))) b
     calm_ready mid seg since (inr (g, is, lacks)) =
-        let none = living_leave h goes.xids (s.blocks old.store) who goes.holds.blocks there lacks.none g lacks.fewest.within (λ i o few at. living g i o lacks.fewest.within few at) in
+        let none = left_free h old st on there lacks.none g lacks.fewest.within (λ i o few at. living g i o lacks.fewest.within few at) in
         let full : 16 ≤ owners (book_at h.books g) = (let f = lacks.full in grind (arith, nat_tests, f)) in
         absurd (omega (arith, none, full))
 
@@ -160,7 +175,7 @@ module _ {S : Type 0} (s : Ghosts S) (laws : Laws s) (h : State) (old : EngineVi
     second_ready mid new stands r young (inr (g, is, lacks)) =
         let goes2 = stands.goes (rest.stopped ∙ on) in
         let within : seg < length Cleared.books = (let counted = goes2.holds.blocks.tell.books_counted in let same = ap (λ (z : Rattle.rb_base.specs.declared.shape.Shape.Shape). z.segments) rest.shape in let there = segment_in seg cut.at in omega (arith, counted, same, there)) in
-        let few = living_leave Cleared goes2.xids (s.blocks mid.store) who goes2.holds.blocks there lacks.none seg within (λ i o small at. cleared_living h seg i o small at) in
+        let few = left_free Cleared mid stands (rest.stopped ∙ on) there lacks.none seg within (λ i o small at. cleared_living h seg i o small at) in
         let least = lacks.fewest.least seg within in
         let full : 16 ≤ owners (book_at Cleared.books g) = (let f = lacks.full in grind (arith, nat_tests, f)) in
         absurd (omega (arith, few, least, full))

@@ -1,5 +1,5 @@
 -- What a write of a session does with the state, from the group of its step.
-use Rattle.std.proofs.Common.{◌≡◌, ◌≢◌, inl, inr, ◌≤◌, ◌+◌, ◌/◌, ◌%◌, ◌&&◌, ℕ, Bool, true, false, not, nat_le, List, [], ◌∷◌, ◌++◌, length, map, set, if◌then◌else◌, ◌-◌, Option, Some, None, Result, Ok, Err, IfErr, IfOk, refl, sym, ◌∙◌, ap, subst, arith}
+use Rattle.std.proofs.Common.{◌≡◌, ◌≢◌, ◌≤◌, ◌+◌, ◌/◌, ◌%◌, ◌&&◌, ℕ, Bool, true, false, not, nat_le, List, [], ◌∷◌, ◌++◌, length, map, set, if◌then◌else◌, ◌-◌, Option, Some, None, Result, Ok, Err, IfErr, IfOk, refl, sym, ◌∙◌, ap, subst, arith}
 use Rattle.rb_base.specs.declared.sizes.TheConstants.{SLOTS}
 use Rattle.rb_sessions.specs.declared.sessions.TheConstants.{SESSIONS}
 use Rattle.rb_engine.proofs.CopyLemmas.{copies_same, copies_written}
@@ -45,6 +45,7 @@ use Rattle.law_blocks.specs.Standing.{env_of}
 use Rattle.law_blocks.specs.States.{BlocksStand}
 use Rattle.rb_steps.proofs.Firsts.{row_tests, split_tests}
 use Rattle.rb_steps.proofs.HolderWords.{holder_is}
+use Rattle.rb_steps.proofs.Somewhere.{in_segment}
 use Rattle.rb_steps.proofs.Young.{young}
 use Rattle.rb_steps.specs.Steps.{IsAbout, IsHolder, NotOthers, refusal_of}
 use Rattle.law_write.specs.Verdict.{IsOwnId}
@@ -67,11 +68,6 @@ failed_is faults.WornOut = refl
 
 pub the_failure : (fault : AttemptFault) → is_disk_fault (refusal_of fault) ≡ true → refusal_of fault ≡ DiskFault
 the_failure fault is = the_fault (refusal_of fault) is
-
--- where it has a slot, or would take one, it writes
-pub at_place : (h : State) (s g i : ℕ) → WritesIn h s g i → WritesAt h s g
-at_place h s g i (inl owned) = inl (i, owned)
-at_place h s g i (inr (none, begun)) = inr (none, record { within = begun.within; least = begun.least; first = begun.first })
 
 pub same_some : (u v : ℕ) → ◌≡◌ {A = Option ℕ} (Some u) (Some v) → u ≡ v
 same_some u v is = cc
@@ -118,7 +114,7 @@ module _ {S : Type 0} (s : Ghosts S) (told : s.tells) (laws : Laws s) (h : State
         let granted : first_of (write_tests h (s.lsn old.store) x.seg who table key action) Done ≡ Done = subst (λ (n : ℕ). first_of (write_tests h n x.seg who table key action) Done ≡ Done) (sym goes.holds.logged) made.granted in
         let knows = written_remembered h goes.xids (s.blocks old.store) (s.blocks new.store) who x.seg x.slot (change_in h x.seg table key action) x goes.holds.blocks there.0 high made.in_slot made.stand made.id made.ids old.memory.sessions there.1 goes.remembers in
         does_calm s h after (Write who table key action) Done old new 1 st
-        (answered x.seg (at_place h who x.seg x.slot made.in_slot) Done granted) (x.seg, x.slot, made.in_slot, refl) (λ _. kept_undo x made)
+        (answered x.seg (in_segment h who x.seg x.slot made.in_slot) Done granted) (x.seg, x.slot, made.in_slot, refl) (λ _. kept_undo x made)
         (knows_on h after old.memory new.memory st.knows (length-set h.sessions _ _) refl refl stopped scn (λ on. knows_same h after old.memory new.memory refl refl waits (ap (λ (l : List KeptSession). map (λ k. k.asked) l) table_is ∙ all_asked old.memory.sessions (who - 1) (wrote x (kept_at old.memory.sessions who)) refl) (st.knows.queue on))) same
         (λ _. (
           refl,
@@ -151,8 +147,8 @@ module _ {S : Type 0} (s : Ghosts S) (told : s.tells) (laws : Laws s) (h : State
 
       first_waited : (b : Bool) → closes mid.waits who u ≡ b → (r : Answer) → (if b then Refused (Deadlock u) else Waits u) ≡ r → first_of (write_tests h (s.lsn old.store) place.0 who table key action) Done ≡ r
       first_waited b ring r is =
-          ap (λ (l : List (Bool × Answer)). first_of l Done) (split_tests h (s.lsn old.store) place.0 who table key action)
-          ∙ of_holder (holder h table key) held.0 (serial_tests h.commits (isolation_of h who) table key ++ row_tests h (s.lsn old.store) place.0 who table key action)
+          ap (λ (l : List (Bool × Answer)). first_of l Done) (split_tests h (s.lsn old.store) place.0 0 who table key action)
+          ∙ of_holder (holder h table key) held.0 (serial_tests h.commits (isolation_of h who) table key ++ row_tests h (s.lsn old.store) place.0 0 who table key action)
         where
           differ : not (nat_le u who && nat_le who u) ≡ true
           differ = let ne = held.1 in grind (arith, nat_tests)

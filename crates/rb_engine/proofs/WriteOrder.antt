@@ -30,7 +30,7 @@ use Rattle.rb_model.specs.declared.wrote.Wrote.TheVariants as wrotes
 use Rattle.rb_sessions.specs.Kept.{holding, kept_at, with_kept, wrote}
 use Rattle.law_blocks.specs.Standing.{env_of, logged_of}
 use Rattle.law_blocks.specs.States.{BlocksStand}
-use Rattle.rb_steps.proofs.Somewhere.{writes_at}
+use Rattle.rb_steps.proofs.Somewhere.{somewhere}
 use Rattle.rb_steps.specs.Steps.{IsAbout, MayWrite, NotOthers, refusal_of}
 use Rattle.law_sessions.specs.Views.{Remembers}
 use Rattle.rb_rollback.specs.Backs.{SameStore}
@@ -55,7 +55,7 @@ module _ {S : Type 0} (s : Ghosts S) (told : s.tells) (laws : Laws s) (h : State
 
   -- the session writes in some segment of the machine
   place : (g : ℕ) × WritesAt h who g
-  place = writes_at h (st.goes on).xids (s.blocks old) who (kept_at kept.sessions who).own (about s told laws h View st on who table key action there early)
+  place = somewhere h (st.goes on).xids (s.blocks old) who (kept_at kept.sessions who).own (about s told laws h View st on who table key action there early)
 
   -- THE HOLDER: it couldn't be read,
   pub holder_unread : (new : EngineView S) → Logs s old new.store [] false → new.memory ≡ record kept { stopped = true } → Does s h (Write who table key action) (Refused DiskFault) View new

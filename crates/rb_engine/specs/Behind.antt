@@ -1,6 +1,6 @@
 -- What a write does behind the dead that stood in its way: they are put back first, and then it is made as in a state
 -- without them.
-use Rattle.std.specs.Prelude.{◌≡◌, ◌⊎◌, ◌≤◌, ◌<◌, ◌+◌, ◌*◌, ◌^◌, ℕ, nat_le, Bool, true, false}
+use Rattle.std.specs.Prelude.{◌≡◌, ◌⊎◌, ◌≤◌, ◌<◌, ◌+◌, ◌*◌, ◌^◌, ℕ, nat_le, Bool, true, false, ⊥}
 use Rattle.std.specs.Prelude.{Option, None, Some, Result, Err}
 use Rattle.rb_base.specs.declared.store.Store.{Ghosts}
 use Rattle.rb_engine.specs.Does.{Does, EngineView, Kept, Stands}
@@ -48,10 +48,15 @@ abbrev pub LessDead : Bool → (old new : Kept) → Type 0
 LessDead true old new = new ≡ record old { stopped = true }
 LessDead false old new = new ≡ record old { dead = new.dead }
 
+-- the call is a write
+abbrev pub IsWrite : Call → Type 0
+IsWrite (Write s table key action) = Unit {0}
+IsWrite call = ⊥
+
 -- A call with that answer on an engine that stood for h: the dead that stood in its way were put back, which led the
 -- engine to a state that is ready for it, and there it did what it does. Which state that is, `Ready` says. All that is
--- said of the call itself is said of this state: what it makes of blocks, what it tells of their slot entries, and what
--- it needs where it is too old. The log has 2^14 groups more at most, and a crash leaves no more than the states before
+-- said of the call itself is said of this state: what it makes of blocks, what a write tells of their slot entries, and
+-- what it needs where it is too old. The log has 2^14 groups more at most, and a crash leaves no more than the states before
 -- and after all.
 pub record Behind {S : Type 0} (s : Ghosts S) (Ready : State → Type 0) (h : State) (call : Call) (answer : Answer)
     (old new : EngineView S) : Type 0 where
@@ -62,7 +67,8 @@ pub record Behind {S : Type 0} (s : Ghosts S) (Ready : State → Type 0) (h : St
   pub does : Does s ready call answer mid new
   pub makes : is_fault answer ≡ false
       → Makes ready call answer (s.lsn new.store) (s.blocks mid.store) (s.blocks new.store)
-  pub tells : is_fault answer ≡ false → TellsLooks ready.shape (s.blocks mid.store) (s.blocks new.store)
+  pub tells : IsWrite call → is_fault answer ≡ false
+      → TellsLooks ready.shape (s.blocks mid.store) (s.blocks new.store)
   pub lost : (scn lost : ℕ) → answer ≡ Refused (TooOld scn lost) → CallNeedsLost s ready mid call scn lost
   pub few : h.stopped ≡ false → does.now.stopped ≡ false → s.lsn new.store ≤ s.lsn old.store + 2 ^ 14
   pub survives : (before : Option Call) → h.stopped ≡ false → s.keeps
@@ -93,11 +99,6 @@ Tried ghosts h s table key action result old new =
     Behind ghosts (λ ready. (ready ≡ h) × HasPlace h s (write_answer result)) h (Write s table key action)
     (write_answer result) old new
     ⊎ ((seg : ℕ) × (result ≡ Err (RollbackFull seg 0)) × LacksSlot h s table key action seg)
-
--- a refusal for want of room tells a segment that there is
-abbrev pub TellsSegment : ℕ → Refusal → Type 0
-TellsSegment segments (RollbackFull seg since) = seg < segments
-TellsSegment segments _ = Unit {0}
 
 -- A resumed write on an engine that stood for h, which goes on: none is ready, and nothing was done; or it is that of
 -- the first ready session, which does what it does as if the session had never been in the queue. A stopped engine

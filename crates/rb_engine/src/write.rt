@@ -5,7 +5,7 @@ ghost use Rattle.std.specs.Result.{is_err};
 ghost use Rattle.rb_base.specs.Counts.{IsCountedAs, err_is};
 ghost use Rattle.rb_base.specs.Logs.{Logs};
 ghost use Rattle.rb_base.specs.declared.ids.Xid.{Xid};
-ghost use Rattle.rb_engine.specs.Behind.{Behind, HasClearHome, TellsSegment, Tried};
+ghost use Rattle.rb_engine.specs.Behind.{Behind, HasClearHome, Tried};
 ghost use Rattle.rb_engine.specs.Checks.{NotOld};
 ghost use Rattle.rb_engine.specs.Does.{IsInStep, Stands, StopsIf};
 ghost use Rattle.rb_engine.specs.Scanning.{OtherHolds};
@@ -106,7 +106,6 @@ fn write_once<T: Store>(
         (record { memory = memory.old; store = store.old }) (record { memory = memory.new; store = store.new }) }
     ensures stays { IfErr result (λ why. is_disk_fault why ≡ false
         → (memory.new ≡ memory.old) × Logs T.Store store.old store.new [] true) }
-    ensures segment { IfErr result (TellsSegment (T.shape_of store.old).segments) }
     ensures young { IfErr result NotOld }
     ensures holds_back { err_is is_disk_fault result ≡ false → T.holds_back store.old store.new }
     ensures ready { ready_count memory.new.waits ≡ ready_count memory.old.waits }
@@ -160,7 +159,7 @@ fn write_with_room<T: Store>(
     let Err(Refusal::RollbackFull { seg, .. }) = first else {
         return first;
     };
-    if memory.dead == 0 {
+    if memory.dead == 0 || seg >= store.shape().segments {
         return first;
     }
     free_segment(memory, store, workspace, seg)?;
