@@ -2,10 +2,10 @@
 //! a key then.
 use crate::cell::reads;
 use crate::writers::{Writers, copy_of};
-use rb_base::{Shape, Store, Xid};
+use rb_base::{Shape, Store, Workspace, Xid};
 use rb_cell::{ROW, STUB};
 use rb_model::Op;
-use rb_write::{AttemptFault, holder_of};
+use rb_write::{Ask, AttemptFault, attempt, holder_of};
 use std::test::Fail;
 
 /// Two tables of one block each, 0 and 1, and two segments.
@@ -83,6 +83,40 @@ fn rollback_full(rt: HostRuntime) -> Result<(), Fail> {
     }
     let full = AttemptFault::RollbackFull { seg: 0, since: 320 };
     assert!(rt; writers.line(b"lock 1 1 0") == Err(full));
+    Ok(())
+}
+
+/// Inserts a row by a transaction that begins with it.
+fn begin(writers: &mut Writers, table: u16, key: u64) -> Result<Xid, AttemptFault> {
+    if table == 0 || table > writers.store.shape().tables {
+        return Err(AttemptFault::Failed);
+    }
+    let ask = Ask {
+        own: None,
+        table,
+        key,
+        op: Some(Op::Insert(b"a")),
+    };
+    attempt(&mut writers.store, &ask, &mut Workspace::new())
+}
+
+// The sixteen transactions of a segment have each slot entry of two blocks. A block without one is told before that.
+#[test]
+fn no_slot(rt: HostRuntime) -> Result<(), Fail> {
+    let shape = Shape {
+        tables: 3,
+        blocks: 1,
+        segments: 1,
+    };
+    let mut writers = Writers::new(rt.alloc(), shape)?;
+    for table in 1..3 {
+        for key in 0..8 {
+            assert!(rt; begin(&mut writers, table, key).is_ok());
+        }
+    }
+    assert!(rt; begin(&mut writers, 1, 8) == Err(AttemptFault::SlotsFull));
+    assert!(rt; begin(&mut writers, 3, 0) == Err(AttemptFault::NoSlot { seg: 0 }));
+    assert!(rt; writers.store.logged() == 16);
     Ok(())
 }
 
