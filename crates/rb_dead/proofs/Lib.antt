@@ -1,4 +1,4 @@
-mod Homes
+pub mod Homes
 mod Moving
 mod Sweeps
 pub mod Gone

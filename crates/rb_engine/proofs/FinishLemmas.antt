@@ -1,5 +1,5 @@
 -- What a commit leaves, from the groups of its step, and what the end of a transaction without a slot does.
-use Rattle.std.proofs.Common.{◌≡◌, inl, inr, ◌<◌, ◌≤◌, ◌+◌, ◌*◌, ◌-◌, ◌^◌, ◌∷◌, ◌++◌, nat_le, ℕ, true, false, not, min, List, [], length, map, Option, Some, None, Result, Ok, Err, OnOk, refl, sym, ◌∙◌, ap, subst, arith, append-nil, length-append}
+use Rattle.std.proofs.Common.{◌≡◌, ◌≢◌, inl, inr, ◌<◌, ◌≤◌, ◌+◌, ◌*◌, ◌-◌, ◌^◌, ◌∷◌, ◌++◌, nat_le, ℕ, true, false, not, min, List, [], length, map, Option, Some, None, Result, Ok, Err, OnOk, refl, sym, ◌∙◌, ap, subst, arith, append-nil, length-append}
 use Rattle.rb_sessions.specs.declared.sessions.TheConstants.{SESSIONS}
 use Rattle.rb_engine.proofs.CopyLemmas.{copies_committed, copies_same}
 use Rattle.std.proofs.lemmas.Bool.{le-leb, and_from}
@@ -15,7 +15,7 @@ use Rattle.rb_engine.specs.Finishing.{Commits, commit_call, lasting, number_told
 use Rattle.rb_engine.specs.Makes.{MadeReading}
 use Rattle.rb_engine.specs.declared.finish.Lasting.{Lasting}
 use Rattle.rb_engine.specs.declared.finish.Lasting.TheVariants.{AtOnce, Later}
-use Rattle.rb_engine.proofs.DoesLemmas.{does_by, does_fault, holds_session, knows_on}
+use Rattle.rb_engine.proofs.DoesLemmas.{does_calm, does_fault, holds_session, knows_on}
 use Rattle.rb_engine.proofs.QueueLemmas.{all_asked, holds_queue, knows_freed, survives_queue}
 use Rattle.law_crash.specs.Crash.{Survives}
 use Rattle.law_crash.specs.Holds.{Holds}
@@ -25,7 +25,7 @@ use Rattle.law_crash.proofs.Beside.{blocks_stand}
 use Rattle.law_crash.proofs.CommitHeld.{commit_fault, holds_flushed, holds_later}
 use Rattle.law_crash.proofs.Crashes.{survives_on}
 use Rattle.law_crash.proofs.Owners.{OwnedBy, none_owned, owned_by}
-use Rattle.rb_model.specs.Calls.{Action, Call, Done, HasNoSlot, Owned, Refused, MayAnswer, Write, early_tests, failed_in, is_empty, none_applies, session_tests}
+use Rattle.rb_model.specs.Calls.{Action, Call, Done, HasNoSlot, Owned, Refused, MayAnswer, Sweep, Write, early_tests, failed_in, is_empty, none_applies, session_tests}
 use Rattle.rb_model.specs.Change.{Change}
 use Rattle.rb_model.specs.NextState.{After, Ends, EndsAs, Grows, GrowsBy, committed, cursors_of, ended, freeing, not_present}
 use Rattle.rb_model.specs.Queue.{freed_by, is_queued}

@@ -1,5 +1,5 @@
 -- A write that no session and no commit stands in the way of, tried once: it is made, refused, or lacks a slot.
-use Rattle.std.proofs.Common.{◌≡◌, ◌⊎◌, inl, inr, ◌≤◌, ⊎_elim, ℕ, Bool, true, false, not, List, [], length, Option, Result, Ok, Err, refl, sym, ◌∙◌, ap, subst, arith, ⊥}
+use Rattle.std.proofs.Common.{◌≡◌, ◌⊎◌, inl, inr, ◌≤◌, ⊎_elim, ℕ, Bool, true, false, not, List, [], length, Option, Result, Ok, Err, refl, sym, ◌∙◌, ap, subst, arith}
 use Rattle.std.proofs.lemmas.Bool.{cases_Bool}
 use Rattle.rb_sessions.specs.declared.sessions.TheConstants.{SESSIONS}
 use Rattle.rb_write.specs.Refusals.{has_failed}

@@ -32,6 +32,9 @@ use Rattle.rb_model.specs.Book.{Book, book_at, fresh_book}
 use Rattle.rb_model.specs.Calls.{HasNoSlot}
 use Rattle.rb_model.specs.Change.{Change}
 use Rattle.rb_model.specs.Rows.{TableRow, last_scn, over, rows_at}
+use Rattle.std.proofs.lemmas.List.Sums.{sum_by-cons}
+use Rattle.std.specs.List.{sum_by}
+use Rattle.rb_model.specs.Dead.{all_slots, dead_at, dead_owed, dead_owed_at, dead_owner}
 use Rattle.rb_model.specs.State.{State, opened, owner_at}
 use Rattle.rb_recovery.specs.Opens.{books_of}
 use Rattle.rb_recovery.proofs.Opened.{books_same, unowned}
@@ -81,10 +84,18 @@ fresh_at u = by (u - 1) SESSIONS
     by zero (suc n) = refl
     by (suc i) (suc n) = by i n
 
+-- where no slot is a dead transaction's, no group is owed
+nothing_owed : (h : State) → ((t : ℕ) → dead_at h t ≡ None) → dead_owed h ≡ 0
+nothing_owed h none = by (all_slots h)
+  where
+    by : (l : List ℕ) → sum_by (λ t. dead_owed_at h (dead_at h t)) l ≡ 0
+    by [] = refl
+    by (t ∷ l) = let all = sum_by-cons (λ t. dead_owed_at h (dead_at h t)) t l in let here : dead_owed_at h (dead_at h t) ≡ 0 = ap (dead_owed_at h) (none t) in let rest = by l in omega (arith, all, here, rest)
+
 -- an engine that was just opened is in step
 pub in_step : {S : Type 0} (s : Ghosts S) (kept : Kept) (old new : S) (groups : List (List Patch)) → Logs s old new groups true → length groups ≤ 2 ^ 40 → s.lsn old ≤ 2 ^ 61 + 4096
-    → kept.sessions ≡ replicate SESSIONS fresh → kept.waits ≡ [] → IsInStep s kept new
-in_step s kept old new groups logs few low is empty =
+    → kept.sessions ≡ replicate SESSIONS fresh → kept.waits ≡ [] → kept.dead ≡ 0 → IsInStep s kept new
+in_step s kept old new groups logs few low is empty calm =
     let at : (u : ℕ) → kept_at kept.sessions u ≡ fresh = λ u. ap (λ (l : List KeptSession). kept_at l u) is ∙ fresh_at u in record {
       counted = ap (λ (l : List KeptSession). length l) is;
       tables = λ u. subst (InTables (s.shape_of new)) (sym (at u)) tt;
@@ -96,16 +107,17 @@ in_step s kept old new groups logs few low is empty =
         held = λ u queued. (let clash : false ≡ true = ap (is_queued u) (sym empty) ∙ queued in absurd (cc));
       };
       going = λ _. logs.failed;
-      few = λ _. let number = logs.number refl in let none = ap owed_kept is in omega (arith, number, few, low, none);
+      few = λ _. let number = logs.number refl in let none = ap owed_kept is in omega (arith, number, few, low, none, calm);
+      owed = omega (arith, calm);
     }
 
 -- the rows of an opened state at its last commit are its base
-opened_rows : (shape : Shape) (number : ℕ) (rows : List TableRow) (books : List Book) → rows_at shape.blocks (opened shape number rows books).commits (last_scn (opened shape number rows books).commits) ≡ rows
+opened_rows : (shape : Shape) (number : ℕ) (rows : List TableRow) (books : List Book) → rows_at shape.blocks (opened shape number rows books []).commits (last_scn (opened shape number rows books []).commits) ≡ rows
 opened_rows shape number rows books = ap (λ (commits : List (List Change)). over shape.blocks rows (flat_map (λ changes. changes) commits)) (take-nil (number + 0 - number))
 
 module _ (shape : Shape) (blocks : List (List ℕ)) (number : ℕ) (rows : List TableRow) where
   abbrev pub First : State
-  First = opened shape number rows (books_of shape blocks)
+  First = opened shape number rows (books_of shape blocks) []
 
   -- blocks that are partly put back have the state that they open to
   has_partly : (lsn count : ℕ) (at : List (List ℕ)) → lsn ≡ logged_of shape blocks → IsPartlyBack shape number rows count blocks at
@@ -183,10 +195,14 @@ module _ {S : Type 0} (s : Ghosts S) (laws : Laws s) (told : s.tells) (h : State
         let made = logs.blocks told refl ∙ ap (λ (l : List (List Patch)). after_groups (s.lsn old + 1) l (s.blocks old)) (sym (take_all (length groups) groups (omega arith))) in
         subst (λ (blocks : List (List ℕ)). SoundAs Sh blocks Number Rows) (sym made) (stay (length groups) (omega arith)).sound
 
+    no_dead : (t : ℕ) (o : Option Owner) → owner_at (First Sh (s.blocks old) Number Rows) t ≡ o → dead_at (First Sh (s.blocks old) Number Rows) t ≡ None
+    no_dead t None at = ap dead_owner at
+    no_dead t (Some o) at = absurd (none_owns o.session t o at refl)
+
     none_owns : (who : ℕ) → HasNoSlot (First Sh (s.blocks old) Number Rows) who
     none_owns who t o at is =
         let none : owner_at (First Sh (s.blocks new) Number Rows) t ≡ None = unowned Sh (s.blocks new) Number Rows opens.in_range sound_new back.idle t in
-        let same = ap (λ (books : List Book). owner_at (opened Sh Number Rows books) t) (books_same Sh (s.blocks old) (s.blocks new) back.books) in
+        let same = ap (λ (books : List Book). owner_at (opened Sh Number Rows books []) t) (books_same Sh (s.blocks old) (s.blocks new) back.books) in
         let clash : None ≡ Some o = sym none ∙ (same ∙ at) in
         cc
 
@@ -205,13 +221,13 @@ module _ {S : Type 0} (s : Ghosts S) (laws : Laws s) (told : s.tells) (h : State
         subst (λ (x : State). (s.keeps → Keeps s (HasSome x x.books) new) → Holds s x [] new) (sym opens.opening.state) holds_first images_new
 
     -- an engine with such a memory
-    pub opened_engine : (memory : Kept) → memory.sessions ≡ replicate SESSIONS fresh → memory.waits ≡ [] → memory.scn ≡ commit_scn Sh (s.blocks old) → memory.stopped ≡ false → memory.copies.kept ≡ [] → Opened s h old (record { memory = memory; store = new })
-    opened_engine memory table_is empty scn going none_kept = record {
+    pub opened_engine : (memory : Kept) → memory.sessions ≡ replicate SESSIONS fresh → memory.waits ≡ [] → memory.scn ≡ commit_scn Sh (s.blocks old) → memory.stopped ≡ false → memory.copies.kept ≡ [] → memory.dead ≡ 0 → Opened s h old (record { memory = memory; store = new })
+    opened_engine memory table_is empty scn going none_kept calm = record {
       stands = record {
         told = told;
         shape = logs.same_shape ∙ shape_is;
         knows = record {
-          sixteen = ap (λ (x : State). length x.sessions) opens.opening.state;
+          sixteen = let n = ap (λ (x : State). length x.sessions) opens.opening.state in omega (arith, n);
           stopped = going ∙ sym (ap (λ (x : State). x.stopped) opens.opening.state);
           scn = scn ∙ (opens.opening.sound.standing.stands.number ∙ (first_number ∙ sym (ap (λ (x : State). last_scn x.commits) opens.opening.state)));
           queue = λ _. record {
@@ -224,9 +240,10 @@ module _ {S : Type 0} (s : Ghosts S) (laws : Laws s) (told : s.tells) (h : State
           holds = holds;
           remembers = subst (Remembers h [] (env_of h.shape (s.blocks new))) (sym table_is)
               (subst (λ (x : State). Remembers x [] (env_of h.shape (s.blocks new)) (replicate SESSIONS fresh)) (sym opens.opening.state)
-              (first_remembered Sh Number Rows (books_of Sh (s.blocks old)) (env_of h.shape (s.blocks new)) none_owns));
+              (first_remembered Sh Number Rows (books_of Sh (s.blocks old)) [] (env_of h.shape (s.blocks new)) (λ who _. none_owns who)));
           copies = subst (λ (k : KeptHomes). CopiesStand h [] (s.blocks new) k) (sym none_kept) (none_stand h [] (s.blocks new));
         };
+        owes = λ _. calm ∙ sym (ap (λ (x : State). dead_owed x) opens.opening.state ∙ nothing_owed (First Sh (s.blocks old) Number Rows) (λ t. no_dead t (owner_at (First Sh (s.blocks old) Number Rows) t) refl));
       };
       lsn = logs.number refl ∙ ap (λ (n : ℕ). s.lsn old + n) back.count;
       back = subst (λ (n : ℕ). BackBy Sh n (s.blocks old) (s.blocks new)) back.count back.back;

@@ -10,7 +10,7 @@ use Rattle.rb_engine.specs.Does.{Does, EngineView, Goes, Stands}
 use Rattle.rb_engine.proofs.DoesLemmas.{does_calm, holds_session, knows_on, with_session}
 use Rattle.rb_engine.specs.Finishing.{commit_call}
 use Rattle.rb_engine.specs.declared.finish.Lasting.{Lasting}
-use Rattle.rb_engine.proofs.FinishLemmas.{after_end, grows_end, may_end, no_write, goes, no_early, none_own, own_by, own_id}
+use Rattle.rb_engine.proofs.FinishLemmas.{after_end, grows_end, may_end, no_sweep, no_write, goes, no_early, none_own, own_by, own_id}
 use Rattle.law_crash.specs.Crash.{Survives}
 use Rattle.law_crash.specs.Holds.{Holds}
 use Rattle.law_crash.proofs.Crashes.{survives_on}

@@ -1,5 +1,5 @@
 -- Which answers of a write ask for room in its segment, and the state in which those are given.
-use Rattle.std.proofs.Common.{◌≡◌, ◌≢◌, ◌⊎◌, inl, inr, ◌<◌, ◌≤◌, ◌+◌, ◌-◌, ◌*◌, ◌++◌, ◌&&◌, ℕ, zero, suc, Bool, true, false, not, nat_le, cond, List, [], ◌∷◌, length, Option, Some, None, refl, sym, ◌∙◌, ap, subst, arith, ⊥}
+use Rattle.std.proofs.Common.{◌≡◌, ◌≢◌, ◌⊎◌, inl, inr, ◌<◌, ◌≤◌, ◌+◌, ◌-◌, ◌*◌, ◌++◌, ◌&&◌, ℕ, zero, suc, Bool, true, false, not, nat_le, cond, List, [], ◌∷◌, length, Option, Some, None, refl, sym, ◌∙◌, ap, subst, arith}
 use Rattle.std.proofs.lemmas.Bool.{cond-false, cond-true, cond_both, false≢true}
 use Rattle.std.specs.List.{AllByRecursion}
 use Rattle.rb_base.specs.declared.sizes.TheConstants.{WORN}
@@ -10,14 +10,14 @@ use Rattle.rb_model.specs.Dead.{KeepsRest, segment_cleared}
 use Rattle.rb_model.specs.Full.{full_block}
 use Rattle.rb_model.specs.Isolation.{is_read_only}
 use Rattle.rb_model.specs.Late.{late}
-use Rattle.rb_model.specs.Queue.{Waiter}
+use Rattle.rb_model.specs.Queue.{Waiter, is_queued}
 use Rattle.rb_model.specs.Rows.{Commits, has_row}
 use Rattle.rb_model.specs.State.{Session, State, is_session, is_table, isolation_of, session_count}
 use Rattle.rb_model.specs.Tests.{full_slots, holder, made_since}
 use Rattle.rb_model.specs.declared.mode.Isolation.{Isolation}
 use Rattle.rb_model.specs.declared.mode.Isolation.TheVariants as isolation
 use Rattle.rb_model.specs.declared.refusal.Refusal.{Refusal}
-use Rattle.rb_model.specs.declared.refusal.Refusal.TheVariants.{BlockFull, DiskFault, Duplicate, NotFound, ReadOnly, NoTable, RollbackFull, SlotsFull, TooOld, ValueTooLong, WornOut}
+use Rattle.rb_model.specs.declared.refusal.Refusal.TheVariants.{BlockFull, DiskFault, Duplicate, NotFound, ReadOnly, NoSession, NoTable, RollbackFull, SlotsFull, Stopped, TooOld, ValueTooLong, Waiting, WornOut}
 use Rattle.rb_base.specs.declared.shape.Shape.{Shape}
 
 -- 1 for an answer that asks for room in the segment
@@ -117,19 +117,19 @@ asks_room h ready now logged s table key action r first passed young (later test
 asks_room h ready now logged s table key action r first passed young (fault none e) room = subst (λ (x : Answer). Readies s h x ready) (sym e) (inr room)
 asks_room h ready now logged s table key action r first passed young (old none is) room = absurd (young is.snapshot (book_at now.books is.seg).lost is.answer)
 
+-- the early tests of a write, by what of the state they ask
+abbrev early_by : ℕ → ℕ → Action → Bool → List Waiter → Isolation → Shape → List (Bool × Answer)
+early_by table s action stopped queue i shape =
+    (((stopped, Refused Stopped) ∷ (not (is_session s), Refused NoSession) ∷ []) ++ (is_queued s queue, Refused Waiting) ∷ [])
+    ++ (is_read_only i, Refused ReadOnly) ∷ (not (nat_le 1 table && nat_le table shape.tables), Refused NoTable) ∷ (is_too_long action, Refused ValueTooLong) ∷ []
+
 -- the early tests of a write in a state that differs in the dead alone
 pub early_stay : (h h2 : State) (s table key : ℕ) (action : Action) → KeepsRest h h2 → 1 ≤ s → s ≤ session_count → early_tests h2 (Write s table key action) ≡ early_tests h (Write s table key action)
 early_stay h h2 s table key action rest low high =
-    ap (λ (b : Bool). by b h2.queue (isolation_of h2 s) h2.shape) rest.stopped
-    ∙ (ap (λ (queue : List Waiter). by h.stopped queue (isolation_of h2 s) h2.shape) rest.queue
-    ∙ (ap (λ (z : Session). by h.stopped h.queue z.isolation h2.shape) (rest.living s low high)
-    ∙ ap (λ (shape : Shape). by h.stopped h.queue (isolation_of h s) shape) rest.shape))
-  where
-    abbrev by : Bool → List Waiter → Isolation → Shape → List (Bool × Answer)
-    by stopped queue i shape =
-        ((stopped, Refused Rattle.rb_model.specs.declared.refusal.Refusal.TheVariants.Stopped) ∷ (not (is_session s), Refused Rattle.rb_model.specs.declared.refusal.Refusal.TheVariants.NoSession) ∷ []
-        ++ (Rattle.rb_model.specs.Queue.is_queued s queue, Refused Rattle.rb_model.specs.declared.refusal.Refusal.TheVariants.Waiting) ∷ [])
-        ++ (is_read_only i, Refused ReadOnly) ∷ (not (nat_le 1 table && nat_le table shape.tables), Refused NoTable) ∷ (is_too_long action, Refused ValueTooLong) ∷ []
+    ap (λ (b : Bool). early_by table s action b h2.queue (isolation_of h2 s) h2.shape) rest.stopped
+    ∙ (ap (λ (queue : List Waiter). early_by table s action h.stopped queue (isolation_of h2 s) h2.shape) rest.queue
+    ∙ (ap (λ (z : Session). early_by table s action h.stopped h.queue z.isolation h2.shape) (rest.living s low high)
+    ∙ ap (λ (shape : Shape). early_by table s action h.stopped h.queue (isolation_of h s) shape) rest.shape))
 
 -- the room that is made
 pub room_made : (h : State) (s g : ℕ) → WritesAt h s g → lacks_room s (book_at h.books g) ≡ true → HasRoom h s (segment_cleared g h)

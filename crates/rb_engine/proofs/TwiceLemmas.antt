@@ -1,7 +1,8 @@
 -- A write that is tried once more where its segment had no room: which state is ready for its answer.
-use Rattle.std.proofs.Common.{◌≡◌, ◌≢◌, ◌⊎◌, inl, inr, ◌<◌, ◌≤◌, ◌+◌, ◌*◌, ⊎_elim, ℕ, Bool, true, false, not, nat_le, cond, List, [], length, Option, Some, None, Result, Ok, Err, refl, sym, ◌∙◌, ap, subst, arith, ⊥}
+use Rattle.std.proofs.Common.{◌≡◌, ◌≢◌, ◌⊎◌, inl, inr, ◌<◌, ◌≤◌, ◌+◌, ◌*◌, ◌/◌, ◌%◌, ◌∷◌, ◌&&◌, ◌||◌, ⊎_elim, ℕ, suc, get_or, Bool, true, false, not, nat_le, cond, List, [], length, Option, Some, None, Result, Ok, Err, refl, sym, ◌∙◌, ap, subst, arith}
 use Rattle.std.proofs.lemmas.Bool.{cases_Bool, false≢true}
 use Rattle.std.proofs.lemmas.Bool.Decides.{nat_tests}
+use Rattle.std.specs.List.{list_any}
 use Rattle.rb_base.specs.Logs.{Laws}
 use Rattle.rb_base.specs.declared.store.Store.{Ghosts}
 use Rattle.rb_base.specs.declared.ids.Xid.{Xid}
@@ -21,8 +22,8 @@ use Rattle.rb_engine.proofs.RoomLemmas.{IsFullAt, asks_room, early_stay, full_an
 use Rattle.rb_engine.proofs.WriteLemmas.{about}
 use Rattle.rb_model.proofs.DeadLemmas.{segment_rest}
 use Rattle.rb_model.specs.Answers.{write_answer}
-use Rattle.rb_model.specs.Book.{Owner, book_at, is_full, owners, slot_owner}
-use Rattle.rb_model.specs.Calls.{Action, Answer, HasNoSlot, MayAnswer, Refused, Write, WritesAt, WritesIn, early_tests, key_tests, none_applies, serial_tests}
+use Rattle.rb_model.specs.Book.{Book, BookSlot, Owner, book_at, free_slot, is_full, owners, slot_owner}
+use Rattle.rb_model.specs.Calls.{Action, Answer, HasNoSlot, MayAnswer, is_owner, Refused, Write, WritesAt, WritesIn, early_tests, key_tests, none_applies, serial_tests}
 use Rattle.rb_model.specs.Clearing.{HasRoom, Readies, has_slot_in, lacks_room}
 use Rattle.rb_model.specs.Dead.{KeepsRest, dead_at, dead_owed, dead_owner, segment_cleared}
 use Rattle.rb_model.specs.Isolation as isolations
@@ -89,6 +90,29 @@ left_free {S} {s} {who} h e st on there none g within living =
     no_own None id = refl
     no_own (Some x) id = let f = id.owned x refl in absurd (none f.0 f.1.owner f.1.at f.1.session)
 
+-- a session that has no slot has none in a book
+any_none : (p : BookSlot → Bool) (l : List BookSlot) → ((i : ℕ) → i < length l → p (get_or l i free_slot) ≡ false) → list_any p l ≡ false
+any_none p [] none = refl
+any_none p (x ∷ l) none = rw (none 0 (omega arith), any_none p l (λ i lt. none (suc i) (omega (arith, lt)))) refl
+
+no_slot_lacks : (h : State) (s g : ℕ) → length (book_at h.books g).slots ≤ 16 → HasNoSlot h s → nat_le 16 (owners (book_at h.books g)) ≡ true → lacks_room s (book_at h.books g) ≡ true
+no_slot_lacks h s g sixteen none many =
+    let b : Book = book_at h.books g in
+    let has : has_slot_in s b ≡ false = any_none (λ slot. is_owner s slot.owner) b.slots (λ i lt. other i (omega (arith, lt, sixteen)) (slot_owner b i) refl) in
+    by (is_full b) has
+  where
+    other : (i : ℕ) → i < 16 → (o : Option Owner) → slot_owner (book_at h.books g) i ≡ o → is_owner s o ≡ false
+    other i few None at = refl
+    other i few (Some o) at =
+        let seg : (16 * g + i) / 16 ≡ g = omega (arith, few) in
+        let slot : (16 * g + i) % 16 ≡ i = omega (arith, few) in
+        let here : owner_at h (16 * g + i) ≡ Some o = ap (λ (z : ℕ). slot_owner (book_at h.books z) ((16 * g + i) % 16)) seg ∙ (ap (slot_owner (book_at h.books g)) slot ∙ at) in
+        let ne = none (16 * g + i) o here in grind (arith, nat_tests)
+
+    by : (full : Bool) → has_slot_in s (book_at h.books g) ≡ false → (full || (not (has_slot_in s (book_at h.books g)) && nat_le 16 (owners (book_at h.books g)))) ≡ true
+    by true has = refl
+    by false has = rw (has, many) refl
+
 module _ {S : Type 0} (s : Ghosts S) (laws : Laws s) (h : State) (old : EngineView S) (st : Stands s h old) (on : h.stopped ≡ false) (who table key : ℕ) (action : Action)
     (there : (1 ≤ who) × (who ≤ SESSIONS)) (early : none_applies (early_tests h (Write who table key action)) ≡ true) (clear : HasClearHome h table key) where
   abbrev goes : Goes s h old
@@ -107,7 +131,7 @@ module _ {S : Type 0} (s : Ghosts S) (laws : Laws s) (h : State) (old : EngineVi
       record { at = is.at; passed = is.passed; lacks = full_lacks h who seg is.full }
   cut_by mid seg since (inr (g, is, lacks)) =
       let same : seg ≡ g = cc in
-      subst IsCut (sym same) (record { at = inr (lacks.none, lacks.fewest); passed = lacks.passed; lacks = no_slot_lacks h goes.xids (s.blocks old.store) who g goes.holds.blocks lacks.none lacks.fewest.within lacks.full })
+      subst IsCut (sym same) (record { at = inr (lacks.none, lacks.fewest); passed = lacks.passed; lacks = no_slot_lacks h who g (let n = (goes.holds.blocks.tell.books g (let counted = goes.holds.blocks.tell.books_counted in let within = lacks.fewest.within in omega (arith, counted, within))).slots_counted in omega (arith, n)) lacks.none lacks.full })
 
   pub segment_in : (seg : ℕ) → WritesAt h who seg → seg < h.shape.segments
   segment_in seg (inl (i, owned)) =

@@ -1,6 +1,6 @@
 -- What a write does behind the dead that stood in its way: they are put back first, and then it is made as in a state
 -- without them.
-use Rattle.std.specs.Prelude.{◌≡◌, ◌⊎◌, ◌≤◌, ◌<◌, ◌+◌, ◌*◌, ◌^◌, ℕ, nat_le, Bool, true, false, ⊥}
+use Rattle.std.specs.Prelude.{◌≡◌, ◌⊎◌, ◌≤◌, ◌<◌, ◌+◌, ◌*◌, ◌^◌, ℕ, nat_le, Bool, true, false}
 use Rattle.std.specs.Prelude.{Option, None, Some, Result, Err}
 use Rattle.rb_base.specs.declared.store.Store.{Ghosts}
 use Rattle.rb_engine.specs.Does.{Does, EngineView, Kept, Stands}

@@ -98,7 +98,7 @@ fn write_once<T: Store>(
     requires going { memory.old.stopped ≡ false }
     requires session { (1 ≤ s) × (s ≤ SESSIONS) }
     requires table { (1 ≤ table) × (table ≤ (T.shape_of store.old).tables) }
-    requires short { is_too_long (action_by op.entry) ≡ false }
+    requires short { is_too_long (action_by op) ≡ false }
     ensures step { IsInStep T.Store memory.new store.new }
     ensures did { (h : State) → Stands T.Store h (record { memory = memory.old; store = store.old })
         → none_applies (early_tests h (machine.Write s table key (action_by op.entry))) ≡ true
@@ -142,7 +142,7 @@ fn write_with_room<T: Store>(
     requires going { memory.old.stopped ≡ false }
     requires session { (1 ≤ s) × (s ≤ SESSIONS) }
     requires table { (1 ≤ table) × (table ≤ (T.shape_of store.old).tables) }
-    requires short { is_too_long (action_by op.entry) ≡ false }
+    requires short { is_too_long (action_by op) ≡ false }
     ensures step { IsInStep T.Store memory.new store.new }
     ensures did { (h : State) → Stands T.Store h (record { memory = memory.old; store = store.old })
         → none_applies (early_tests h (machine.Write s table key (action_by op.entry))) ≡ true

@@ -37,7 +37,7 @@ module _ (shape : Shape) (blocks : List (List ℕ)) (number : ℕ) (rows : List 
   Segs = segments_of shape blocks
 
   abbrev First : State
-  First = opened shape number rows (books_of shape blocks)
+  First = opened shape number rows (books_of shape blocks) []
 
   abbrev Now : Env
   Now = env_of shape blocks

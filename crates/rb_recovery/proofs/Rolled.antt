@@ -65,11 +65,11 @@ failed_first s old new result fault logs =
 -- the machine's state that they leave
 pub opened_by : {S : Type 0} (s : Ghosts S) (old new : S) (groups : List (List Patch)) → Logs s old new groups true → s.tells → (number : ℕ) (rows : List TableRow) → IsShape (s.shape_of old) → s.lsn old ≡ logged_of (s.shape_of old) (s.blocks old)
     → StaySound (s.shape_of old) number rows (s.lsn old) groups (s.blocks old) → RolledBack (s.shape_of old) groups (s.blocks old) (s.blocks new)
-    → BlocksStand (opened (s.shape_of old) number rows (books_of (s.shape_of old) (s.blocks old))) [] (s.blocks new) × (s.lsn new ≡ logged_of (s.shape_of old) (s.blocks new))
+    → BlocksStand (opened (s.shape_of old) number rows (books_of (s.shape_of old) (s.blocks old)) []) [] (s.blocks new) × (s.lsn new ≡ logged_of (s.shape_of old) (s.blocks new))
 opened_by s old new groups logs told number rows in_range logged stay rolled =
     let shape = s.shape_of old in
     let made = logs.blocks told refl ∙ ap (λ (l : List (List Patch)). after_groups (s.lsn old + 1) l (s.blocks old)) (sym (take_all (length groups) groups (omega arith))) in
     let sound = subst (λ (blocks : List (List ℕ)). SoundAs shape blocks number rows) (sym made) (stay (length groups) (omega arith)).sound in
     let stands = opens_to shape (s.blocks new) number rows in_range sound rolled.idle in
     let books = books_same shape (s.blocks old) (s.blocks new) rolled.books in
-    (subst (λ (there : List Book). BlocksStand (opened shape number rows there) [] (s.blocks new)) books stands, omega (arith, logs.number refl, logged, rolled.logged))
+    (subst (λ (there : List Book). BlocksStand (opened shape number rows there []) [] (s.blocks new)) books stands, omega (arith, logs.number refl, logged, rolled.logged))

@@ -1,5 +1,5 @@
 -- The books that an opening finds in the blocks of a file, and the state that they open to.
-use Rattle.std.specs.Prelude.{◌≡◌, ℕ, List, map}
+use Rattle.std.specs.Prelude.{◌≡◌, ℕ, List, [], map}
 use Rattle.std.specs.List.{range_with_len}
 use Rattle.rb_base.specs.declared.shape.Shape.{Shape}
 use Rattle.rb_model.specs.Book.{Book}
@@ -19,4 +19,4 @@ pub record OpensAs (shape : Shape) (blocks : List (List ℕ)) (h : State) : Type
   pub number : ℕ
   pub rows : List TableRow
   pub sound : SoundAs shape blocks number rows
-  pub state : h ≡ opened shape number rows (books_of shape blocks)
+  pub state : h ≡ opened shape number rows (books_of shape blocks) []

@@ -22,5 +22,5 @@ pub fn sound_opens()
 pub fn opened_stands()
     ensures { (shape : Shape) (blocks : List (List ℕ)) (number : ℕ) (rows : List TableRow) → IsShape shape
         → SoundAs shape blocks number rows → AreIdle shape blocks
-        → BlocksStand (opened shape number rows (books_of shape blocks)) [] blocks }
+        → BlocksStand (opened shape number rows (books_of shape blocks) []) [] blocks }
 {}

@@ -46,7 +46,7 @@ pub fn open_blocks<S: Store>(store: &mut S, workspace: &mut Workspace) -> Result
         → S.lsn store.old ≡ logged_of (S.shape_of store.old) (S.blocks store.old)
         → SoundAs (S.shape_of store.old) (S.blocks store.old) number rows
         → OnOk result (BlocksStand (opened (S.shape_of store.old) number rows
-        (books_of (S.shape_of store.old) (S.blocks store.old))) [] (S.blocks store.new)
+        (books_of (S.shape_of store.old) (S.blocks store.old)) []) [] (S.blocks store.new)
         × (S.lsn store.new ≡ logged_of (S.shape_of store.old) (S.blocks store.new))) }
 {
     if !blocks_sound(store)? {

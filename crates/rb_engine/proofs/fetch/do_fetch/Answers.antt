@@ -114,9 +114,9 @@ returns-in-Ok-Row-clause-step g c =
     let fit = fit_taken (s.shape_of old) name key at (fit_at s kept old step c.args.s) in
     let there = c.in_ok-check_session.ensures.session in
     let moved = moved_by g c in
-    in_step_moved s kept now old new step logs.same_shape refl c.args.s there k fit moved
+    in_step_moved s kept now old new step logs.same_shape (ap (λ (k : Kept). k.dead) c.memory.view_is) c.args.s there k fit moved
     (queue_moved s kept now old new step logs.same_shape refl c.args.s there k fit moved refl (inl (ap (λ (k : Kept). k.waits) c.memory.view_is)))
-    (λ _. (logs.failed, few_young s kept now old new step logs.same_shape refl c.args.s there k fit moved c.in_ok-check_session.ensures.going (fit.small) refl (c.in-Ok-Row.ensures.young refl)))
+    (λ _. (logs.failed, few_young s kept now old new step logs.same_shape (ap (λ (k : Kept). k.dead) c.memory.view_is) c.args.s there k fit moved c.in_ok-check_session.ensures.going (fit.small) refl (c.in-Ok-Row.ensures.young refl)))
 
 pub returns-in-Ok-Row-clause-ahead : goal.returns-in-Ok-Row-clause-ahead
 returns-in-Ok-Row-clause-ahead g c =
@@ -225,7 +225,7 @@ returns-in-Err-TooOld-clause-lost g c = λ h st scn lost is.
 pub returns-in-Ok-End-clause-step : goal.returns-in-Ok-End-clause-step
 returns-in-Ok-End-clause-step g c =
     let e = c.in-Ok-End.ensures in
-    in_step_young g.T.Store c.args.memory.now (record { sessions = c.memory.inside.sessions; waits = c.memory.inside.waits; scn = c.memory.inside.scn; stopped = c.memory.inside.stopped; copies = c.next_row.new.copies; dead = c.memory.inside.dead }) c.args.store.now c.next_row.new.store c.requires.step e.logs.1.same_shape refl
+    in_step_young g.T.Store c.args.memory.now (record { sessions = c.memory.inside.sessions; waits = c.memory.inside.waits; scn = c.memory.inside.scn; stopped = c.memory.inside.stopped; copies = c.next_row.new.copies; dead = c.memory.inside.dead }) c.args.store.now c.next_row.new.store c.requires.step e.logs.1.same_shape (ap (λ (k : Kept). k.dead) c.memory.view_is)
     (ap (λ (k : Kept). k.sessions) c.memory.view_is) (ap (λ (k : Kept). k.waits) c.memory.view_is) (λ going. (e.logs.1.failed, e.young refl, sym (ap (λ (k : Kept). k.stopped) c.memory.view_is) ∙ going))
 
 pub returns-in-Err-TooOld-clause-step : goal.returns-in-Err-TooOld-clause-step
@@ -234,7 +234,7 @@ returns-in-Err-TooOld-clause-step g c =
     let s = g.T.Store in
     let old_one : is_fault c.in-Err-TooOld.field-0 ≡ false = ap is_fault c.in-Err-TooOld.field-0-is in
     let logs = subst (λ (f : CrFault). Logs s c.args.store.now c.next_row.new.store e.logs.0 (not (is_fault f))) c.in-Err-TooOld.field-0-is e.logs.1 in
-    in_step_young s c.args.memory.now (record { sessions = c.memory.inside.sessions; waits = c.memory.inside.waits; scn = c.memory.inside.scn; stopped = c.memory.inside.stopped; copies = c.next_row.new.copies; dead = c.memory.inside.dead }) c.args.store.now c.next_row.new.store c.requires.step logs.same_shape refl
+    in_step_young s c.args.memory.now (record { sessions = c.memory.inside.sessions; waits = c.memory.inside.waits; scn = c.memory.inside.scn; stopped = c.memory.inside.stopped; copies = c.next_row.new.copies; dead = c.memory.inside.dead }) c.args.store.now c.next_row.new.store c.requires.step logs.same_shape (ap (λ (k : Kept). k.dead) c.memory.view_is)
     (ap (λ (k : Kept). k.sessions) c.memory.view_is) (ap (λ (k : Kept). k.waits) c.memory.view_is) (λ going. (logs.failed, e.young old_one, sym (ap (λ (k : Kept). k.stopped) c.memory.view_is) ∙ going))
 
 -- What it cleaned.

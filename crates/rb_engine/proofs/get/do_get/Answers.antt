@@ -234,7 +234,7 @@ returns-in-Err-TooOld-clause-step g c =
     let a = c.in-Err-TooOld.ensures in
     let old_one : is_fault c.in-Err-TooOld.field-0 ≡ false = ap is_fault c.in-Err-TooOld.field-0-is in
     let logs = subst (λ (f : CrFault). Logs s c.args.store.now c.next_in.new.store c.in-Err-TooOld.ensures.logs.0 (not (is_fault f))) c.in-Err-TooOld.field-0-is c.in-Err-TooOld.ensures.logs.1 in
-    in_step_young s c.args.memory.now (record { sessions = c.memory.inside.sessions; waits = c.memory.inside.waits; scn = c.memory.inside.scn; stopped = c.memory.inside.stopped; copies = c.next_in.new.copies; dead = c.memory.inside.dead }) c.args.store.now c.next_in.new.store c.requires.step logs.same_shape refl
+    in_step_young s c.args.memory.now (record { sessions = c.memory.inside.sessions; waits = c.memory.inside.waits; scn = c.memory.inside.scn; stopped = c.memory.inside.stopped; copies = c.next_in.new.copies; dead = c.memory.inside.dead }) c.args.store.now c.next_in.new.store c.requires.step logs.same_shape (ap (λ (k : Kept). k.dead) c.memory.view_is)
     (ap (λ (k : Kept). k.sessions) c.memory.view_is) (ap (λ (k : Kept). k.waits) c.memory.view_is) (λ going. (logs.failed, a.young old_one, sym (ap (λ (k : Kept). k.stopped) c.memory.view_is) ∙ going))
 
 pub returns-in-Err-TooOld-clause-holds_back : goal.returns-in-Err-TooOld-clause-holds_back
@@ -294,6 +294,6 @@ returns-in_err-check_table-clause-holds_back g c =
 
 pub returns-in-Err-Failed-clause-step : goal.returns-in-Err-Failed-clause-step
 returns-in-Err-Failed-clause-step g c =
-    in_step_young g.T.Store c.args.memory.now c.fail.new.self c.args.store.now c.next_in.new.store c.requires.step c.in-Err-Failed.ensures.logs.1.same_shape refl
+    in_step_young g.T.Store c.args.memory.now c.fail.new.self c.args.store.now c.next_in.new.store c.requires.step c.in-Err-Failed.ensures.logs.1.same_shape (ap (λ (k : Kept). k.dead) c.fail.ensures.stopped ∙ ap (λ (k : Kept). k.dead) c.memory.view_is)
     (ap (λ (k : Kept). k.sessions) c.fail.ensures.stopped ∙ ap (λ (k : Kept). k.sessions) c.memory.view_is) (ap (λ (k : Kept). k.waits) c.fail.ensures.stopped ∙ ap (λ (k : Kept). k.waits) c.memory.view_is)
     (λ going. (let clash : true ≡ false = sym (ap (λ (k : Kept). k.stopped) c.fail.ensures.stopped) ∙ going in absurd cc))

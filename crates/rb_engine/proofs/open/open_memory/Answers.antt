@@ -70,7 +70,7 @@ returns-clause-step g c =
     let new = c.open_blocks.new.store in
     let back = c.in_ok-open_blocks.ensures.rolled_back in
     let first = c.in_ok-memory.ensures in
-    in_step s c.in_ok-memory.memory old new back.0 (more_logs s old mid new [] back.0 true first.logs back.1) back.3 c.requires.few (first.sessions ∙ c.requires.fresh) first.waits
+    in_step s c.in_ok-memory.memory old new back.0 (more_logs s old mid new [] back.0 true first.logs back.1) back.3 c.requires.few (first.sessions ∙ c.requires.fresh) first.waits first.dead
 
 pub returns-clause-opened : goal.returns-clause-opened
 returns-clause-opened g c = λ told h opens.
@@ -83,7 +83,7 @@ returns-clause-opened g c = λ told h opens.
     let logs = more_logs s old mid new [] back.0 true first.logs back.1 in
     let both = moved s old mid (λ shape lsn blocks. lsn ≡ logged_of shape blocks → SoundAs shape blocks opens.opening.number opens.opening.rows → StaySound shape opens.opening.number opens.opening.rows lsn back.0 blocks × RolledBack shape back.0 blocks (s.blocks new)) first.logs told
     (λ logged sound. back.4 opens.opening.number opens.opening.rows told logged sound) opens.logged opens.opening.sound in
-    opened_engine s (laws_of g) told h old opens new back.0 logs both.0 both.1 c.in_ok-memory.memory (first.sessions ∙ c.requires.fresh) first.waits (first.scn told) first.going (ap (λ (z : CopyTable). z.kept) first.copies ∙ c.requires.empty)
+    opened_engine s (laws_of g) told h old opens new back.0 logs both.0 both.1 c.in_ok-memory.memory (first.sessions ∙ c.requires.fresh) first.waits (first.scn told) first.going (ap (λ (z : CopyTable). z.kept) first.copies ∙ c.requires.empty) first.dead
 
 pub returns-in_err-memory-clause-untouched : goal.returns-in_err-memory-clause-untouched
 returns-in_err-memory-clause-untouched g c = λ told cannot.

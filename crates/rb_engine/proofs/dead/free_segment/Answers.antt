@@ -1,0 +1,17 @@
+use Rattle.std.proofs.Common.{rules, ◌≡◌, ◌<◌, ◌≤◌, ℕ, false, IfErr, ◌+◌, ◌-◌, ◌*◌, length, ◌/◌, ◌%◌, Bool, true, nat_eq, nat_lt, List, [], ◌∷◌, ◌++◌, slice_index_or, slice_set, bit_and, bit_or, Fits, w8, w32, w64, Bor, MutBor}
+use Rattle.rb_base.specs.Counts.{IsCountedAs}
+use Rattle.rb_engine.specs.Behind.{LedOr, LessDead}
+use Rattle.rb_engine.specs.Checks.{err_faults}
+use Rattle.rb_engine.specs.Does.{IsInStep, Stands}
+use Rattle.rb_model.specs.Dead.{home_cleared, segment_cleared}
+use Rattle.rb_model.specs.State.{State}
+use Rattle.rb_rollback.specs.Backs.{SameStore}
+use Rattle.rb_engine.proofs.dead.free_segment.Goals as goal
+
+-- src/dead.rt:54:1
+pub returns-in-Ok-clause-led : goal.returns-in-Ok-clause-led
+returns-in-Ok-clause-led g c = ?
+
+-- src/dead.rt:54:1
+pub returns-in-Ok-clause-holds_back : goal.returns-in-Ok-clause-holds_back
+returns-in-Ok-clause-holds_back g c = ?
