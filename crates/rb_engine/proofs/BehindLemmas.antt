@@ -156,3 +156,18 @@ module _ {S : Type 0} (s : Ghosts S) (laws : Laws s) where
     few = b.few;
     survives = b.survives;
   }
+
+-- What is done of an engine's store is done of it under another memory.
+pub behind_from : {S : Type 0} {R : State → Type 0} (s : Ghosts S) (h : State) (call : Call) (answer : Answer) (kept mid : Kept) (store : S) (new : EngineView S) → Behind s R h call answer (record { memory = mid; store = store }) new → Behind s R h call answer (record { memory = kept; store = store }) new
+behind_from s h call answer kept mid store new b = record {
+  ready = b.ready;
+  clears = b.clears;
+  mid = b.mid;
+  led = record { rest = b.led.rest; fewer = b.led.fewer; stands = b.led.stands; same = b.led.same; lsn = b.led.lsn; back = b.led.back; survives = b.led.survives };
+  does = b.does;
+  makes = b.makes;
+  tells = b.tells;
+  lost = b.lost;
+  few = b.few;
+  survives = b.survives;
+}

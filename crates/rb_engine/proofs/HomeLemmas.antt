@@ -1,5 +1,5 @@
 -- A home of which the dead are gone: no dead transaction has a change there, and so none holds its keys.
-use Rattle.std.proofs.Common.{◌≡◌, ◌<◌, ◌≤◌, ◌*◌, ◌∷◌, ℕ, Bool, true, false, List, [], Option, Some, refl, sym, ◌∙◌, ap, subst, arith}
+use Rattle.std.proofs.Common.{◌≡◌, ◌<◌, ◌≤◌, ◌*◌, ◌∷◌, inl, ℕ, Bool, true, false, List, [], Option, Some, Result, Ok, Err, IfErr, IfOk, refl, sym, ◌∙◌, ap, subst, arith}
 use Rattle.std.proofs.lemmas.Bool.{false≢true}
 use Rattle.std.specs.List.{list_any}
 use Rattle.rb_base.specs.declared.ids.Xid.{Xid}
@@ -9,6 +9,14 @@ use Rattle.law_dead.proofs.Cleared.{alive_holds, cleared_is_clear}
 use Rattle.law_dead.specs.Laws.{OwnsOne}
 use Rattle.rb_dead.proofs.Homes.{owns_one}
 use Rattle.rb_engine.specs.Behind.{HasClearHome}
+use Rattle.rb_engine.specs.Lateness.{IsRefusedLate}
+use Rattle.rb_model.specs.Answers.{write_answer}
+use Rattle.rb_model.specs.Calls.{Refused}
+use Rattle.rb_model.specs.Clearing.{Readies}
+use Rattle.rb_model.specs.declared.refusal.Refusal.{Refusal}
+use Rattle.rb_model.specs.declared.refusal.Refusal.TheVariants as refusals
+use Rattle.rb_model.specs.declared.wrote.Wrote.{Wrote}
+use Rattle.rb_model.specs.declared.wrote.Wrote.TheVariants as wrotes
 use Rattle.rb_model.proofs.DeadLemmas.{home_rest}
 use Rattle.rb_model.specs.Change.{Change}
 use Rattle.rb_model.specs.Dead.{dead_at, home_cleared, works_at}
@@ -30,3 +38,14 @@ clear_home h xids xids2 blocks blocks2 table key before now =
 
 pub living_holds : (h : State) (table key : ℕ) → HasClearHome h table key → (u : ℕ) → holder h table key ≡ Some u → u ≤ session_count
 living_holds h table key clear u held = alive_holds h table key u clear.none clear.owned held
+
+-- A write that waits, or comes too late, asks for no room.
+pub waits_ready : (h : State) (s u : ℕ) (r : Result Wrote Refusal) → IfErr r (λ why. why ≡ refusals.Deadlock u) → IfOk r (λ w. w ≡ wrotes.Waits u) → Readies s h (write_answer r) h
+waits_ready h s u (Ok w) ring waits = subst (λ (x : Wrote). Readies s h (write_answer (Ok x)) h) (sym waits) refl
+waits_ready h s u (Err why) ring waits = subst (λ (x : Refusal). Readies s h (Refused x) h) (sym ring) refl
+
+pub late_ready : (h : State) (xids : List Xid) (blocks : List (List ℕ)) (s table key : ℕ) (why : Refusal) → IsRefusedLate h xids blocks s table key why → Readies s h (Refused why) h
+late_ready h xids blocks s table key (refusals.TooOld scn lost) late = refl
+late_ready h xids blocks s table key (refusals.CantSerialize scn by) late = refl
+late_ready h xids blocks s table key refusals.DiskFault late = inl refl
+late_ready h xids blocks s table key _ late = absurd late

@@ -1,6 +1,6 @@
 -- What an opening makes of a store whose blocks open to a state: an engine that stands for it, and images that restart
 -- in it.
-use Rattle.std.proofs.Common.{◌≡◌, ◌≢◌, ◌<◌, ◌≤◌, ◌+◌, ◌-◌, ◌^◌, ℕ, zero, suc, Bool, true, false, not, List, [], length, take, get_or, replicate, Some, None, Result, Ok, Err, IfErr, IsErrOf, refl, sym, ◌∙◌, ap, subst, arith, map}
+use Rattle.std.proofs.Common.{◌∷◌, ◌≡◌, ◌≢◌, ◌<◌, ◌≤◌, ◌+◌, ◌-◌, ◌^◌, ℕ, zero, suc, Bool, true, false, not, List, [], length, take, get_or, replicate, Some, None, Result, Ok, Err, IfErr, IsErrOf, refl, sym, ◌∙◌, ap, subst, arith, map, Option}
 use Rattle.std.specs.Result.{IsErrAnd}
 use Rattle.rb_copies.specs.Copies.{KeptHomes}
 use Rattle.law_copies.specs.Copies.{CopiesStand}
@@ -28,7 +28,7 @@ use Rattle.law_crash.specs.Holds.{Holds}
 use Rattle.law_crash.specs.Images.{HasSome, HasState}
 use Rattle.law_crash.proofs.Crashes.{some_last}
 use Rattle.law_crash.proofs.Steps.{OpensWith, Property, keeps_on, leaves_on, restarts_some}
-use Rattle.rb_model.specs.Book.{Book, book_at, fresh_book}
+use Rattle.rb_model.specs.Book.{Book, book_at, fresh_book, Owner}
 use Rattle.rb_model.specs.Calls.{HasNoSlot}
 use Rattle.rb_model.specs.Change.{Change}
 use Rattle.rb_model.specs.Rows.{TableRow, last_scn, over, rows_at}
@@ -195,16 +195,16 @@ module _ {S : Type 0} (s : Ghosts S) (laws : Laws s) (told : s.tells) (h : State
         let made = logs.blocks told refl ∙ ap (λ (l : List (List Patch)). after_groups (s.lsn old + 1) l (s.blocks old)) (sym (take_all (length groups) groups (omega arith))) in
         subst (λ (blocks : List (List ℕ)). SoundAs Sh blocks Number Rows) (sym made) (stay (length groups) (omega arith)).sound
 
-    no_dead : (t : ℕ) (o : Option Owner) → owner_at (First Sh (s.blocks old) Number Rows) t ≡ o → dead_at (First Sh (s.blocks old) Number Rows) t ≡ None
-    no_dead t None at = ap dead_owner at
-    no_dead t (Some o) at = absurd (none_owns o.session t o at refl)
-
     none_owns : (who : ℕ) → HasNoSlot (First Sh (s.blocks old) Number Rows) who
     none_owns who t o at is =
         let none : owner_at (First Sh (s.blocks new) Number Rows) t ≡ None = unowned Sh (s.blocks new) Number Rows opens.in_range sound_new back.idle t in
         let same = ap (λ (books : List Book). owner_at (opened Sh Number Rows books []) t) (books_same Sh (s.blocks old) (s.blocks new) back.books) in
         let clash : None ≡ Some o = sym none ∙ (same ∙ at) in
         cc
+
+    no_dead : (t : ℕ) (o : Option Owner) → owner_at (First Sh (s.blocks old) Number Rows) t ≡ o → dead_at (First Sh (s.blocks old) Number Rows) t ≡ None
+    no_dead t None at = ap dead_owner at
+    no_dead t (Some o) at = absurd (none_owns o.session t o at refl)
 
     holds_first : (s.keeps → Keeps s (HasSome (First Sh (s.blocks old) Number Rows) (First Sh (s.blocks old) Number Rows).books) new) → Holds s (First Sh (s.blocks old) Number Rows) [] new
     holds_first images = record {

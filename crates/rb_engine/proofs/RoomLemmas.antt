@@ -65,8 +65,8 @@ pub behind_passed : (a b : List (Bool × Answer)) → none_applies a ≡ true �
 behind_passed [] b passed = refl
 behind_passed (t ∷ a) b passed =
     cond_both t.0 t.1 (first_of (a ++ b) Done) (λ (x : Answer). x ≡ first_of b Done)
-    (λ yes. let clash : false ≡ true = rw yes passed in absurd cc)
-    (λ no. behind_passed a b (rw no passed))
+    (λ yes. let clash : false ≡ true = subst (λ (b : Bool). (not b && none_applies a) ≡ true) yes passed in absurd cc)
+    (λ no. behind_passed a b (subst (λ (b : Bool). (not b && none_applies a) ≡ true) no passed))
 
 -- the tests of room tell that the segment is full where it is
 room_told : (h : State) (logged g seg since : ℕ) → first_of (room_tests h logged g) Done ≡ Refused (RollbackFull seg since) → (is_full (book_at h.books g) ≡ true) × (seg ≡ g)

@@ -90,6 +90,9 @@ left_free {S} {s} {who} h e st on there none g within living =
     no_own None id = refl
     no_own (Some x) id = let f = id.owned x refl in absurd (none f.0 f.1.owner f.1.at f.1.session)
 
+sixteen : (n : ℕ) → nat_le 16 n ≡ true → 16 ≤ n
+sixteen n is = grind (arith, nat_tests, is)
+
 -- a session that has no slot has none in a book
 any_none : (p : BookSlot → Bool) (l : List BookSlot) → ((i : ℕ) → i < length l → p (get_or l i free_slot) ≡ false) → list_any p l ≡ false
 any_none p [] none = refl
@@ -124,14 +127,23 @@ module _ {S : Type 0} (s : Ghosts S) (laws : Laws s) (h : State) (old : EngineVi
     pub passed : none_applies (key_tests h who table key action) ≡ true
     pub lacks : lacks_room who (book_at h.books seg) ≡ true
 
-  cut_by : (mid : EngineView S) (seg since : ℕ) → Tried s h who table key action (Err (RollbackFull seg since)) old mid → IsCut seg
+  pub cut_by : (mid : EngineView S) (seg since : ℕ) → Tried s h who table key action (Err (RollbackFull seg since)) old mid → IsCut seg
   cut_by mid seg since (inl b) =
       let reply = b.does.reply in
       let is : IsFullAt h who table key action seg = full_answer h (s.lsn b.mid.store) who table key action seg since early (subst (λ (z : State). MayAnswer z (s.lsn b.mid.store) (Write who table key action) (Refused (RollbackFull seg since))) b.clears.0 reply) in
       record { at = is.at; passed = is.passed; lacks = full_lacks h who seg is.full }
   cut_by mid seg since (inr (g, is, lacks)) =
       let same : seg ≡ g = cc in
-      subst IsCut (sym same) (record { at = inr (lacks.none, lacks.fewest); passed = lacks.passed; lacks = no_slot_lacks h who g (let n = (goes.holds.blocks.tell.books g (let counted = goes.holds.blocks.tell.books_counted in let within = lacks.fewest.within in omega (arith, counted, within))).slots_counted in omega (arith, n)) lacks.none lacks.full })
+      subst IsCut (sym same) (record { at = inr (lacks.none, lacks.fewest); passed = lacks.passed; lacks = no_slot_lacks h who g (let n = (goes.holds.blocks.tell.books g (let counted = goes.holds.blocks.tell.books_counted in let within = lacks.fewest.within in omega (arith, counted, within))).slots in omega (arith, n)) lacks.none lacks.full })
+
+  -- the state itself is ready for an answer
+  ready_answers : (mid : EngineView S) (r : Result Wrote Refusal) → Readies who h (write_answer r) h → Behind s (λ (x : State). (x ≡ h) × HasPlace h who (write_answer r)) h (Write who table key action) (write_answer r) old mid → Behind s (Readies who h (write_answer r)) h (Write who table key action) (write_answer r) old mid
+  ready_answers mid r ready b = behind_as s laws h (Write who table key action) (write_answer r) old mid (λ x is. subst (Readies who h (write_answer r)) (sym is.0) ready) b
+
+  -- with another answer it asks for no more room than there is
+  pub once_answers : (mid : EngineView S) (r : Result Wrote Refusal) → ((seg since : ℕ) → r ≡ Err (RollbackFull seg since) → ⊥) → Tried s h who table key action r old mid → Behind s (Readies who h (write_answer r)) h (Write who table key action) (write_answer r) old mid
+  once_answers mid r other (inl b) = behind_as s laws h (Write who table key action) (write_answer r) old mid (λ x is. subst (Readies who h (write_answer r)) (sym is.0) (once_ready h goes.xids (s.blocks old.store) goes.holds.blocks who r other is.1)) b
+  once_answers mid r other (inr (g, is, lacks)) = absurd (other g 0 is)
 
   pub segment_in : (seg : ℕ) → WritesAt h who seg → seg < h.shape.segments
   segment_in seg (inl (i, owned)) =
@@ -149,13 +161,14 @@ module _ {S : Type 0} (s : Ghosts S) (laws : Laws s) (h : State) (old : EngineVi
         let here : owner_at h (16 * g + i) ≡ Some o = ap (λ (z : ℕ). slot_owner (book_at h.books z) ((16 * g + i) % 16)) seg ∙ (ap (slot_owner (book_at h.books g)) slot ∙ at) in
         none_living o (sym (ap dead_owner here) ∙ owes_none h calm (16 * g + i) (omega (arith, few, within, counted)))
 
-    pub calm_ready : (mid : EngineView S) (seg since : ℕ) → Tried s h who table key action (Err (RollbackFull seg since)) old mid → Behind s (Readies who h (Refused (RollbackFull seg since))) h (Write who table key action) (Refused (RollbackFull seg since)) old mid
+    pub calm_ready : (mid : EngineView S) (seg since : ℕ) → Tried s h who table key action (Err (RollbackFull seg since)) old mid → Behind s (Readies who h (write_answer (Err (RollbackFull seg since)))) h (Write who table key action) (write_answer (Err (RollbackFull seg since))) old mid
     calm_ready mid seg since (inl b) =
         let cut = cut_by mid seg since (inl b) in
-        behind_as s laws h (Write who table key action) (Refused (RollbackFull seg since)) old mid (λ x is. subst (Readies who h (Refused (RollbackFull seg since))) (sym is.0) (room_calm h who seg cut.at (segment_calm h seg calm (segment_in seg cut.at)))) b
+        let room : HasRoom h who h = room_calm h who seg cut.at (segment_calm h seg calm (segment_in seg cut.at)) in
+        ready_answers mid (Err (RollbackFull seg since)) room b
     calm_ready mid seg since (inr (g, is, lacks)) =
         let none = left_free h old st on there lacks.none g lacks.fewest.within (λ i o few at. living g i o lacks.fewest.within few at) in
-        let full : 16 ≤ owners (book_at h.books g) = (let f = lacks.full in grind (arith, nat_tests, f)) in
+        let full = sixteen (owners (book_at h.books g)) lacks.full in
         absurd (omega (arith, none, full))
 
   -- WHERE THE SEGMENT IS CLEARED, and the write tried once more.
@@ -201,5 +214,5 @@ module _ {S : Type 0} (s : Ghosts S) (laws : Laws s) (h : State) (old : EngineVi
         let within : seg < length Cleared.books = (let counted = goes2.holds.blocks.tell.books_counted in let same = ap (λ (z : Rattle.rb_base.specs.declared.shape.Shape.Shape). z.segments) rest.shape in let there = segment_in seg cut.at in omega (arith, counted, same, there)) in
         let few = left_free Cleared mid stands (rest.stopped ∙ on) there lacks.none seg within (λ i o small at. cleared_living h seg i o small at) in
         let least = lacks.fewest.least seg within in
-        let full : 16 ≤ owners (book_at Cleared.books g) = (let f = lacks.full in grind (arith, nat_tests, f)) in
+        let full = sixteen (owners (book_at Cleared.books g)) lacks.full in
         absurd (omega (arith, few, least, full))

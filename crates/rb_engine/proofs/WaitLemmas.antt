@@ -55,21 +55,6 @@ module _ {S : Type 0} (s : Ghosts S) (h : State) (who : ℕ) (kept now : Kept) (
       (λ _. stands_left.owes going)
       (λ fault _ keeps. survives_queue h (left_by who h.queue) h.asked s (s.slots store) fault h store store (survives_same s told laws h h goes.xids store store true st.shape refl refl refl refl goes.holds logs keeps))
 
--- What is done without the session in the queue is done of the engine that had it there.
-pub does_from : {S : Type 0} (s : Ghosts S) (h : State) (call : Call) (answer : Answer) (kept mid : Kept) (store : S) (new : EngineView S) → Does s h call answer (record { memory = mid; store = store }) new → Does s h call answer (record { memory = kept; store = store }) new
-does_from s h call answer kept mid store new does = record {
-  reply = does.reply;
-  now = does.now;
-  after = does.after;
-  keeps = does.keeps;
-  stands = does.stands;
-  groups = does.groups;
-  grows = does.grows;
-  few = does.few;
-  lsn = does.lsn;
-  survives = does.survives;
-}
-
 -- a session that isn't in the queue has nothing to give up
 pub not_waiting : {S : Type 0} (s : Ghosts S) (laws : Laws s) (h : State) (who : ℕ) (old : EngineView S) → (st : Stands s h old) → (old.memory.stopped ≡ false → s.failed old.store ≡ false) → (going : h.stopped ≡ false)
     → none_applies (number_tests h who) ≡ true → is_queued who old.memory.waits ≡ false → Does s h (machine.Cancel who) (machine.Refused NotWaiting) old old

@@ -8,7 +8,7 @@ use Rattle.rb_base.specs.Logs.{Laws, Logs}
 use Rattle.rb_base.specs.declared.ids.Xid.{Xid}
 use Rattle.rb_base.specs.declared.store.Store.{Ghosts}
 use Rattle.rb_engine.specs.Does.{Does, EngineView, Goes, IsInStep, Kept, Stands, StopsIf}
-use Rattle.rb_engine.specs.Lateness.{IsTimely, WriteNeedsLost}
+use Rattle.rb_engine.specs.Lateness.{IsRefusedLate, IsTimely, WriteNeedsLost}
 use Rattle.rb_engine.specs.Makes.{Makes}
 use Rattle.rb_engine.specs.Scanning.{OtherHolds}
 use Rattle.rb_engine.proofs.DoesLemmas.{does_fault, fault_survives}
@@ -75,7 +75,7 @@ module _ {S : Type 0} (s : Ghosts S) (told : s.tells) (laws : Laws s) (h : State
 
   -- or no other session's: the store was only loaded from, and the memory is as it was
   module _ (first : EngineView S) (same : first.memory ≡ kept) (loads : Logs s old first.store [] true) (other : (xids : List Xid) → BlocksStand h xids (s.blocks old) → s.shape_of old ≡ h.shape → Remembers h xids (env_of h.shape (s.blocks old)) kept.sessions → OtherHolds h who table key None) where
-    abbrev First : Stands s h first
+    abbrev pub First : Stands s h first
     First = stands_loaded s told laws h View first st same loads
 
     others : NotOthers h who table key
@@ -86,6 +86,13 @@ module _ {S : Type 0} (s : Ghosts S) (told : s.tells) (laws : Laws s) (h : State
 
     timely_at : (r : Result (Unit {0}) Refusal) → AsTimely r → IsTimely h (First.goes on).xids (s.blocks first.store) who table key r
     timely_at r timely = let goes : Goes s h first = First.goes on in timely goes.xids goes.holds.blocks First.shape goes.remembers
+
+    -- neither another session nor a later commit stands in its way
+    pub may_write : AsTimely (Ok tt) → MayWrite h who table key
+    may_write timely = (others, timely_at (Ok tt) timely)
+
+    pub refused_why : (why : Refusal) → AsTimely (Err why) → IsRefusedLate h (First.goes on).xids (s.blocks first.store) who table key why
+    refused_why why timely = timely_at (Err why) timely
 
     -- THE LATE TEST refuses it, or a call of the store failed,
     pub refused_late : (new : EngineView S) (why : Refusal) → AsTimely (Err why) → StopsIf (is_disk_fault why) first.memory new.memory → Logs s first.store new.store [] (not (is_disk_fault why)) → Does s h (Write who table key action) (Refused why) View new

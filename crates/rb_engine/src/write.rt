@@ -1,6 +1,6 @@
 //! A write of a session. `Engine::write`, `Engine::lock` and `resume` call it.
-ghost use Rattle.std.specs.Prelude.{◌≡◌, ◌≤◌, ℕ, List, []};
-ghost use Rattle.std.specs.Prelude.{true, false, not, Some, IfErr, IfOk, OnOk};
+ghost use Rattle.std.specs.Prelude.{◌≡◌, ◌≢◌, ◌≤◌, ℕ, List, []};
+ghost use Rattle.std.specs.Prelude.{true, false, not, None, Some, IfErr, IfOk, IfSome, OnOk};
 ghost use Rattle.std.specs.Result.{is_err};
 ghost use Rattle.rb_base.specs.Counts.{IsCountedAs, err_is};
 ghost use Rattle.rb_base.specs.Logs.{Logs};
@@ -127,6 +127,17 @@ fn write_once<T: Store>(
     }
 }
 
+/// The segment that has no room, where a write was refused for that.
+fn full_segment(why: Refusal) -> Option<u16>
+    ensures some { IfSome result (λ seg. (since : ℕ) × (why ≡ Refusal.RollbackFull seg since)) }
+    ensures none { result ≡ None → (seg since : ℕ) → why ≢ Refusal.RollbackFull seg since }
+{
+    match why {
+        Refusal::RollbackFull { seg, .. } => Some(seg),
+        _ => None,
+    }
+}
+
 /// Makes such a write. Where its segment has no room for it, all dead transactions of the segment are put back, and it
 /// is tried once more. What the workspace has afterwards is open.
 fn write_with_room<T: Store>(
@@ -155,12 +166,15 @@ fn write_with_room<T: Store>(
     ensures same { SameStore T.Store store.old store.new }
     ensures disk { IsCountedAs (T.faults store.old) (T.faults store.new) (err_is is_disk_fault result) }
 {
-    let first = write_once(memory, store, workspace, s, table, key, op);
-    let Err(Refusal::RollbackFull { seg, .. }) = first else {
-        return first;
+    let why = match write_once(memory, store, workspace, s, table, key, op) {
+        Ok(wrote) => return Ok(wrote),
+        Err(why) => why,
+    };
+    let Some(seg) = full_segment(why) else {
+        return Err(why);
     };
     if memory.dead == 0 || seg >= store.shape().segments {
-        return first;
+        return Err(why);
     }
     free_segment(memory, store, workspace, seg)?;
     write_once(memory, store, workspace, s, table, key, op)

@@ -115,7 +115,7 @@ returns-in-Ok-Row-clause-step g c =
     let there = c.in_ok-check_session.ensures.session in
     let moved = moved_by g c in
     in_step_moved s kept now old new step logs.same_shape (ap (λ (k : Kept). k.dead) c.memory.view_is) c.args.s there k fit moved
-    (queue_moved s kept now old new step logs.same_shape refl c.args.s there k fit moved refl (inl (ap (λ (k : Kept). k.waits) c.memory.view_is)))
+    (queue_moved s kept now old new step logs.same_shape (ap (λ (k : Kept). k.dead) c.memory.view_is) c.args.s there k fit moved refl (inl (ap (λ (k : Kept). k.waits) c.memory.view_is)))
     (λ _. (logs.failed, few_young s kept now old new step logs.same_shape (ap (λ (k : Kept). k.dead) c.memory.view_is) c.args.s there k fit moved c.in_ok-check_session.ensures.going (fit.small) refl (c.in-Ok-Row.ensures.young refl)))
 
 pub returns-in-Ok-Row-clause-ahead : goal.returns-in-Ok-Row-clause-ahead

@@ -96,7 +96,7 @@ returns-in-Ok-true-clause-makes g c = λ h st fine.
 pub returns-in-Ok-true-clause-step : goal.returns-in-Ok-true-clause-step
 returns-in-Ok-true-clause-step g c =
     let a = c.in-Ok-true.ensures in
-    in_step_young g.T.Store c.args.memory.now (record { sessions = c.memory.inside.sessions; waits = c.memory.inside.waits; scn = c.memory.inside.scn; stopped = c.memory.inside.stopped; copies = c.next_in.new.copies; dead = c.memory.inside.dead }) c.args.store.now c.next_in.new.store c.requires.step a.logs.1.same_shape refl
+    in_step_young g.T.Store c.args.memory.now (record { sessions = c.memory.inside.sessions; waits = c.memory.inside.waits; scn = c.memory.inside.scn; stopped = c.memory.inside.stopped; copies = c.next_in.new.copies; dead = c.memory.inside.dead }) c.args.store.now c.next_in.new.store c.requires.step a.logs.1.same_shape (ap (λ (k : Kept). k.dead) c.memory.view_is)
     (ap (λ (k : Kept). k.sessions) c.memory.view_is) (ap (λ (k : Kept). k.waits) c.memory.view_is) (λ going. (a.logs.1.failed, a.young refl, sym (ap (λ (k : Kept). k.stopped) c.memory.view_is) ∙ going))
 
 pub returns-in-Ok-true-clause-holds_back : goal.returns-in-Ok-true-clause-holds_back
@@ -152,7 +152,7 @@ returns-in-Ok-false-clause-makes g c = λ h st fine.
 pub returns-in-Ok-false-clause-step : goal.returns-in-Ok-false-clause-step
 returns-in-Ok-false-clause-step g c =
     let a = c.in-Ok-false.ensures in
-    in_step_young g.T.Store c.args.memory.now (record { sessions = c.memory.inside.sessions; waits = c.memory.inside.waits; scn = c.memory.inside.scn; stopped = c.memory.inside.stopped; copies = c.next_in.new.copies; dead = c.memory.inside.dead }) c.args.store.now c.next_in.new.store c.requires.step a.logs.1.same_shape refl
+    in_step_young g.T.Store c.args.memory.now (record { sessions = c.memory.inside.sessions; waits = c.memory.inside.waits; scn = c.memory.inside.scn; stopped = c.memory.inside.stopped; copies = c.next_in.new.copies; dead = c.memory.inside.dead }) c.args.store.now c.next_in.new.store c.requires.step a.logs.1.same_shape (ap (λ (k : Kept). k.dead) c.memory.view_is)
     (ap (λ (k : Kept). k.sessions) c.memory.view_is) (ap (λ (k : Kept). k.waits) c.memory.view_is) (λ going. (a.logs.1.failed, a.young refl, sym (ap (λ (k : Kept). k.stopped) c.memory.view_is) ∙ going))
 
 pub returns-in-Ok-false-clause-holds_back : goal.returns-in-Ok-false-clause-holds_back

@@ -1,21 +1,19 @@
 use Rattle.std.proofs.Common.{◌≡◌, ℕ, List, false, Some, Err, refl, sym, ◌∙◌, ap, subst, arith}
-use Rattle.rb_engine.specs.Does.{Does, EngineView, IsInStep, Kept, KnowsQueue, Stands}
-use Rattle.rb_engine.specs.Lateness.{ResumeNeedsLost}
+use Rattle.rb_engine.specs.Behind.{Behind}
+use Rattle.rb_engine.proofs.BehindLemmas.{behind_from}
+use Rattle.rb_model.specs.Clearing.{ClearsTo}
+use Rattle.rb_engine.specs.Does.{EngineView, IsInStep, Kept, KnowsQueue, Stands}
 use Rattle.rb_model.specs.Answers.{write_answer}
 use Rattle.rb_model.specs.Calls as machine
 use Rattle.rb_model.specs.Change.{Action}
 use Rattle.rb_model.specs.NextState.{unqueued}
 use Rattle.rb_model.specs.Queue.{Waiter, first_ready, left_by, ready_count}
-use Rattle.rb_model.specs.declared.refusal.Refusal.TheVariants.{TooOld}
 use Rattle.rb_sessions.specs.Kept.{asked_of_pending}
 use Rattle.rb_waits.specs.Room.{AreQueuedOnce}
 use Rattle.rb_waits.proofs.Turns.{ready_is_there, ready_leaves}
-use Rattle.law_crash.proofs.Beside.{blocks_stand}
 use Rattle.rb_engine.proofs.QueueLemmas.{queue_left}
-use Rattle.rb_engine.proofs.LateLemmas.{same_resumed}
 use Rattle.rb_engine.proofs.StepLemmas.{in_step_queue}
-use Rattle.rb_engine.proofs.WaitLemmas.{asked_held, does_from, held_some, stands_left}
-use Rattle.rb_engine.specs.Makes.{Makes}
+use Rattle.rb_engine.proofs.WaitLemmas.{asked_held, held_some, stands_left}
 use Rattle.rb_engine.proofs.resume.do_resume.Goals as goal
 
 pub held-requires : goal.held-requires
@@ -63,8 +61,8 @@ returns-clause-did g c = λ h st.
       first,
       asked_of_pending p,
       asked_held h inside knows w c.held.result p c.held.ensures c.in_ok-pending.was,
-      does_from s (unqueued h w) (machine.Write w p.table p.key (asked_of_pending p).action) (write_answer c.do_write-outcome.result) c.args.memory.now now store new
-          (subst (λ (a : Action). Does s (unqueued h w) (machine.Write w p.table p.key a) (write_answer c.do_write-outcome.result) (record { memory = now; store = store }) new) c.op.ensures.op does),
+      behind_from s (unqueued h w) (machine.Write w p.table p.key (asked_of_pending p).action) (write_answer c.do_write-outcome.result) c.args.memory.now now store new
+          (subst (λ (a : Action). Behind s (ClearsTo (unqueued h w) (machine.Write w p.table p.key a) (write_answer c.do_write-outcome.result)) (unqueued h w) (machine.Write w p.table p.key a) (write_answer c.do_write-outcome.result) (record { memory = now; store = store }) new) c.op.ensures.op does),
     )
 
 pub returns-clause-fewer : goal.returns-clause-fewer
