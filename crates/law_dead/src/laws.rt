@@ -26,7 +26,8 @@ pub fn dead_laws()
 {}
 
 /// A segment that is cleared has no slot of a dead transaction left, and where it had none nothing changes. What the
-/// tests of a write ask of its key says the same then, and who holds it, where no dead transaction has a live change in the key's home.
+/// tests of a write ask of its key says the same then, and who holds it, where no dead transaction has a live change in
+/// the key's home.
 pub fn room_laws()
     ensures tests { KeyTestsStay }
     ensures held { HolderStays }

@@ -17,8 +17,8 @@ use Rattle.rb_rollback.specs.Backs.{SameStore}
 -- A call was made, with that answer, on an engine that stood for h: the dead that stood in its way were put back, and
 -- then it did what it does in a state that is ready for it, by 2^14 groups at most. A crash leaves no more than the
 -- states before and after all.
-pub record MadeFrom {S : Type 0} (s : Ghosts S) (h : State) (call : Call) (answer : Answer) (old new : EngineView S) : Type
-    0 where
+pub record MadeFrom {S : Type 0} (s : Ghosts S) (h : State) (call : Call) (answer : Answer)
+    (old new : EngineView S) : Type 0 where
   pub ready : State
   pub clears : ClearsTo h call answer ready
   pub mid : EngineView S

@@ -1,6 +1,7 @@
 -- What a write does behind the dead that stood in its way: they are put back first, and then it is made as in a state
 -- without them.
-use Rattle.std.specs.Prelude.{◌≡◌, ◌⊎◌, ◌≤◌, ◌<◌, ◌+◌, ◌*◌, ◌^◌, ℕ, nat_le, Bool, true, false}
+use Rattle.std.specs.Prelude.{◌≡◌, ◌⊎◌, ◌≤◌, ◌<◌, ◌+◌, ◌*◌, ◌^◌, ℕ}
+use Rattle.std.specs.Prelude.{nat_le, Bool, true, false}
 use Rattle.std.specs.Prelude.{Option, None, Some, Result, Err}
 use Rattle.rb_base.specs.declared.store.Store.{Ghosts}
 use Rattle.rb_engine.specs.Does.{Does, EngineView, Kept, Stands}
@@ -12,7 +13,8 @@ use Rattle.law_crash.specs.Made.{BackBy, TellsLooks}
 use Rattle.rb_model.specs.Answers.{write_answer}
 use Rattle.rb_model.specs.Book.{book_at, is_full, owners}
 use Rattle.rb_model.specs.Calls.{Done, WritesIn}
-use Rattle.rb_model.specs.Calls.{Action, Answer, Call, HasNoSlot, IsFewest, Refused, Write, failed_in, is_fault, key_tests}
+use Rattle.rb_model.specs.Calls.{Action, Answer, Call, HasNoSlot, IsFewest, Refused, Write}
+use Rattle.rb_model.specs.Calls.{failed_in, is_fault, key_tests}
 use Rattle.rb_model.specs.Calls.{none_applies}
 use Rattle.rb_model.specs.Change.{Asked}
 use Rattle.rb_model.specs.Clearing.{ClearsTo}
@@ -56,8 +58,8 @@ IsWrite call = ⊥
 -- A call with that answer on an engine that stood for h: the dead that stood in its way were put back, which led the
 -- engine to a state that is ready for it, and there it did what it does. Which state that is, `Ready` says. All that is
 -- said of the call itself is said of this state: what it makes of blocks, what a write tells of their slot entries, and
--- what it needs where it is too old. The log has 2^14 groups more at most, and a crash leaves no more than the states before
--- and after all.
+-- what it needs where it is too old. The log has 2^14 groups more at most, and a crash leaves no more than the states
+-- before and after all.
 pub record Behind {S : Type 0} (s : Ghosts S) (Ready : State → Type 0) (h : State) (call : Call) (answer : Answer)
     (old new : EngineView S) : Type 0 where
   pub ready : State
@@ -77,7 +79,8 @@ pub record Behind {S : Type 0} (s : Ghosts S) (Ready : State → Type 0) (h : St
 -- No dead transaction has a live change in the home of a key, and each session that has one there has a slot.
 pub record HasClearHome (h : State) (table key : ℕ) : Type 0 where
   pub none : (t d : ℕ) → t < 16 * h.shape.segments → dead_at h t ≡ Some d → works_at table key h d ≡ false
-  pub owned : (u : ℕ) → 1 ≤ u → works_at table key h u ≡ true → (t : ℕ) × (t < 16 * h.shape.segments) × Owns h u t
+  pub owned : (u : ℕ) → 1 ≤ u → works_at table key h u ≡ true
+      → (t : ℕ) × (t < 16 * h.shape.segments) × Owns h u t
 
 -- Nothing stands in the way of a session's write but that no slot is left for its transaction in that segment.
 pub record LacksSlot (h : State) (s table key : ℕ) (action : Action) (seg : ℕ) : Type 0 where

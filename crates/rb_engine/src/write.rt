@@ -66,7 +66,8 @@ fn other_holder<T: Store>(
     ensures other { T.tells → (h : State) (xids : List Xid) → BlocksStand h xids (T.blocks store.old)
         → T.shape_of store.old ≡ h.shape
         → Remembers h xids (env_of h.shape (T.blocks store.old)) memory.old.sessions
-        → ((u : ℕ) → holder h table key ≡ Some u → u ≤ SESSIONS) → IfOk result (OtherHolds h s table key) }
+        → ((u : ℕ) → holder h table key ≡ Some u → u ≤ SESSIONS)
+        → IfOk result (OtherHolds h s table key) }
     ensures logs { Logs T.Store store.old store.new [] (not (is_err result)) }
     ensures fault { IfErr result (λ why. why ≡ Refusal.DiskFault) }
     ensures stops { StopsIf (is_err result) memory.old memory.new }
@@ -219,10 +220,11 @@ impl<T: Store> Engine<T> {
     /// the session waits until that one's transaction ends: then `resume` tries the write again. It may be refused, and
     /// then nothing is changed but that dead transactions were put back, unless a call of the store failed; where it
     /// would wait in a ring it is refused with `Deadlock`. The dead transactions with a change in the key's home are
-    /// put back before it, and where its segment has no room for it, all dead ones of the segment. A serializable transaction is refused with `CantSerialize` where a commit above its snapshot has
-    /// changed the row, and may be with `TooOld` where that can't be told any more. A write that is done cleans the
-    /// row's block of transactions that have ended: their slot entries tell what the headers said of them as the call
-    /// began. (Oracle7 Server Concepts, *Transaction Management* and *Data Concurrency*.)
+    /// put back before it, and where its segment has no room for it, all dead ones of the segment. A serializable
+    /// transaction is refused with `CantSerialize` where a commit above its snapshot has changed the row, and may be
+    /// with `TooOld` where that can't be told any more. A write that is done cleans the row's block of transactions
+    /// that have ended: their slot entries tell what the headers said of them as the call began. (Oracle7 Server
+    /// Concepts, *Transaction Management* and *Data Concurrency*.)
     pub fn write(&mut self, s: u16, table: u16, key: u64, op: Op<'_>) -> Result<Wrote, Refusal>
         ensures did { (h : State) → Stands T.Store h self.old → Behind T.Store
             (ClearsTo h (machine.Write s table key (action_of op.entry)) (write_answer result)) h

@@ -173,8 +173,8 @@ word_of FlushLine = FlushWord
 word_of (SweepLine changes) = SweepWord
 word_of CheckpointLine = CheckpointWord
 
--- A field after the word: the number of a session or a table, a key, how many rows or changes, the name of a savepoint or cursor,
--- the value of a row, a mode, or the word `later`.
+-- A field after the word: the number of a session or a table, a key, how many rows or changes, the name of a savepoint
+-- or cursor, the value of a row, a mode, or the word `later`.
 pub data Field : Type 0 where
   Id : (n : ℕ) → Field
   Key : (n : ℕ) → Field
