@@ -1,6 +1,6 @@
 //! Dead transactions over a store that keeps undo: those that run in the blocks of a file and are of no session in the
-//! table. They are put back whole where they stand in the way of a home or a segment, or up to so many changes. No call
-//! of the engine makes these calls yet.
+//! table. They are put back whole where they stand in the way of a home or a segment, or up to so many changes. The
+//! engine's writes and its sweep make these calls.
 #![tactic(auto)]
 
 mod home;
