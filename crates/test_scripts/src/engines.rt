@@ -92,6 +92,14 @@ fn flushed<S: Store>(engine: &mut Engine<S>) -> Reply<'static> {
     }
 }
 
+// The reply to `sweep`.
+fn swept<S: Store>(engine: &mut Engine<S>, changes: u32) -> Reply<'static> {
+    match engine.sweep(changes) {
+        Ok(changes) => Reply::Swept { changes },
+        Err(why) => Reply::Refused { s: None, why },
+    }
+}
+
 // The reply to `checkpoint`.
 fn checkpointed<S: Store>(engine: &mut Engine<S>) -> Reply<'static> {
     match engine.checkpoint() {
@@ -168,6 +176,7 @@ fn called<'a, S: Store>(engine: &mut Engine<S>, line: &[u8], row: &'a mut Row) -
         Some(Command::Marks) => marked(engine),
         Some(Command::Sessions) => shown(engine),
         Some(Command::Flush) => flushed(engine),
+        Some(Command::Sweep { changes }) => swept(engine, changes),
         Some(Command::Checkpoint) => checkpointed(engine),
         None => Reply::BadLine,
     }
@@ -349,7 +358,7 @@ resume
 ";
 
 // A later commit is seen at once and frees who waits, a commit behind it takes the next number, and a flush tells the
-// last one, also where nothing waits.
+// last one, also where nothing waits. A sweep takes nothing of sessions that live.
 const LATER_COMMITS: &[u8] = b"\
 flush
 #> flushed 0
@@ -361,6 +370,8 @@ insert 1 1 1 a
 #> 1 ok
 update 2 1 1 b
 #> 2 waits 1
+sweep 9
+#> swept 0
 commit 2 later
 #> 2 waiting
 commit 1 later

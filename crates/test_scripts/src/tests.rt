@@ -16,8 +16,27 @@ use std::test::Fail;
 // Over a fresh file each. The last line of a script may lack its end, and its reply stands above it then.
 #[test]
 fn replies(rt: HostRuntime) -> Result<(), Fail> {
-    let rows: [(&str, &[u8]); 6] = [
+    let rows: [(&str, &[u8]); 7] = [
         ("empty script", b""),
+        (
+            "a sweep takes nothing of those that live",
+            b"\
+sweep 1
+#> swept 0
+insert 1 1 1 a
+#> 1 ok
+sweep 1000000
+#> swept 0
+sweep 0
+#> bad line
+sweep 1000001
+#> bad line
+commit 1
+#> 1 committed 1
+sweep 9
+#> swept 0
+",
+        ),
         (
             "insert, commit, fetch",
             b"\
@@ -1845,14 +1864,15 @@ fn opened(alloc: Global, disk: MemDisk) -> Result<Engine<LogStore<MemDisk>>, Fai
     Ok(engine)
 }
 
-// What an engine over the store of a disk answers a write, its commit, and two calls behind a failed one.
+// What an engine over the store of a disk answers a write, its commit, and three calls behind a failed one.
 fn answers_behind_a_fault(alloc: Global, disk: MemDisk) -> Result<bool, Fail> {
     let mut engine = opened(alloc, disk)?;
     Ok(
         engine.write(1, 1, 1, Op::Insert(b"a")) == Ok(Wrote::Done)
             && engine.commit(1) == Err(Refusal::DiskFault)
             && engine.commit(1) == Err(Refusal::Stopped)
-            && engine.write(1, 1, 1, Op::Delete) == Err(Refusal::Stopped),
+            && engine.write(1, 1, 1, Op::Delete) == Err(Refusal::Stopped)
+            && engine.sweep(1) == Err(Refusal::Stopped),
     )
 }
 
