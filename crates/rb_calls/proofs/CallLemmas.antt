@@ -1,5 +1,5 @@
 -- What one call and one write that is tried again do over an engine, as the engine tells it.
-use Rattle.std.proofs.Common.{◌≡◌, ◌≢◌, ◌∙◌, ⊎_elim, IfErr, refl, sym, ap, subst, arith, ℕ, zero, suc, ◌+◌, ◌<◌, ◌≤◌, Bool, true, false, List, Result, Ok, Err, Option, None, Some}
+use Rattle.std.proofs.Common.{◌≡◌, ◌≢◌, ◌∙◌, ⊎_elim, IfErr, refl, sym, ap, subst, arith, ℕ, zero, suc, ◌+◌, ◌-◌, ◌<◌, ◌≤◌, Bool, true, false, List, Result, Ok, Err, Option, None, Some}
 use Rattle.std.proofs.lemmas.Bool.{cases_Bool, false≢true}
 use Rattle.std.specs.Bool.{MatchBool}
 use Rattle.rb_base.specs.Counts.{IsCountedAs, err_is}
@@ -8,9 +8,9 @@ use Rattle.rb_calls.specs.Made.{Made}
 use Rattle.rb_calls.specs.Resumes.{TriedAgain}
 use Rattle.rb_calls.specs.Since.{IsSince, StandsAs, engine_outside}
 use Rattle.rb_engine.proofs.QueueLemmas.{survives_from, survives_queue}
-use Rattle.rb_engine.specs.Does.{Does, EngineView, Resumes, Stands}
-use Rattle.rb_engine.specs.Lateness.{ResumeNeedsLost}
-use Rattle.rb_engine.specs.Makes.{Makes, ResumeMakes}
+use Rattle.rb_engine.specs.Behind.{Behind, Resumes}
+use Rattle.rb_engine.specs.Does.{Does, EngineView, Stands}
+use Rattle.rb_engine.specs.Makes.{Makes}
 use Rattle.rb_engine.specs.Worn.{CallNeedsLost, IsWorn}
 use Rattle.law_crash.specs.Crash.{Survives}
 use Rattle.rb_lines.specs.Ran.{Did}
@@ -21,7 +21,10 @@ use Rattle.rb_model.specs.Calls.{Absent, Answer, Call, Done, End, Flushed, Swept
 use Rattle.rb_model.specs.Calls.{Write, Commit, CommitLater, Flush, Sweep, Rollback, SetMode, SetSavepoint, RollbackTo, OpenCursor, Fetch, CloseCursor, Get, Cancel, Marks, Show, Checkpoint}
 use Rattle.rb_model.specs.Change.{Asked}
 use Rattle.rb_model.specs.NextState.{After, unqueued}
-use Rattle.rb_model.specs.Out.{Logged, CallOut, goes_on}
+use Rattle.law_crash.specs.Made.{BackBy}
+use Rattle.rb_model.specs.Clearing.{ClearsTo}
+use Rattle.rb_model.specs.Dead.{dead_owed}
+use Rattle.rb_model.specs.Out.{Logged, CallOut, Readied, cleared_by, goes_on, left_queue}
 use Rattle.rb_model.specs.Queue.{first_ready, left_by}
 use Rattle.rb_model.specs.State.{State, asked_of}
 use Rattle.rb_model.specs.declared.refusal.Refusal.{Refusal}
@@ -106,53 +109,108 @@ pub shows_fine : (outcome : Result (Option Activity) Refusal) → IfErr outcome 
 shows_fine (Ok activity) other = refl
 shows_fine (Err why) other = other_refusal why other
 
--- the answer of a write that is tried again
-pub tried_old : (w : ℕ) (outcome : Result Wrote Refusal) (scn lost : ℕ) → outcome ≡ Err (TooOld scn lost) → ◌≡◌ {A = Option (ℕ × Result Wrote Refusal)} (Some (w, outcome)) (Some (w, Err (TooOld scn lost)))
-tried_old w outcome scn lost is = ap (λ (o : Result Wrote Refusal). let r : Option (ℕ × Result Wrote Refusal) = Some (w, o) in r) is
-
 -- one call, as the engine tells it
 
+-- where nothing is put back no block changes
+back_none : (h : State) (blocks : List (List ℕ)) → BackBy h.shape (cleared_by h h) blocks blocks
+back_none h blocks = let none : dead_owed h - dead_owed h ≡ 0 = omega arith in rw none refl
+
 module _ {S : Type 0} (s : Ghosts S) where
-  -- by what the engine says of its outcome
-  pub made_by : (c : Call) (old new : EngineView S) (a b : Answer) (fault : Bool) → b ≡ a → is_fault b ≡ fault → ((h : State) → Stands s h old → Does s h c a old new)
+  -- by what the engine says of the outcome of a call that no dead stand in the way of
+  pub made_by : (c : Call) (old new : EngineView S) (a b : Answer) (fault : Bool) → ((h : State) → ClearsTo h c a h) → b ≡ a → is_fault b ≡ fault → ((h : State) → Stands s h old → Does s h c a old new)
       → ((h : State) → Stands s h old → fault ≡ false → Makes h c a (s.lsn new.store) (s.blocks old.store) (s.blocks new.store))
       → ((h : State) → Stands s h old → (scn lost : ℕ) → a ≡ Refused (TooOld scn lost) → CallNeedsLost s h old c scn lost)
       → SameStore s old.store new.store → IsCountedAs (s.faults old.store) (s.faults new.store) fault → Made s c b old new
-  made_by c old new a b fault is f did makes lost same disk =
+  made_by c old new a b fault clears is f did makes lost same disk =
       let e : is_fault a ≡ fault = sym (ap is_fault is) ∙ f in
       subst (λ (r : Answer). Made s c r old new) (sym is)
-      (record { did = did; makes = λ h st fine. makes h st (sym e ∙ fine); lost = lost; same = same; disk = subst (λ (x : Bool). IsCountedAs (s.faults old.store) (s.faults new.store) x) (sym e) disk })
+      (record {
+        did = λ h st.
+            let does = did h st in
+            record {
+              ready = h;
+              clears = clears h;
+              mid = old;
+              lsn = omega arith;
+              back = back_none h (s.blocks old.store);
+              does = does;
+              makes = λ fine. makes h st (sym e ∙ fine);
+              lost = lost h st;
+              few = λ began on. let n = does.lsn on in let few = does.few began on in omega (arith, n, few);
+              survives = does.survives;
+            };
+        same = same;
+        disk = subst (λ (x : Bool). IsCountedAs (s.faults old.store) (s.faults new.store) x) (sym e) disk;
+      })
 
-  -- what a call makes of the store's blocks, it makes of the machine's
-  pub made_of : (m : Logged) (h : State) (c : Call) (r : Answer) (old new : EngineView S) → StandsAs s old m → Makes h c r (s.lsn new.store) (s.blocks old.store) (s.blocks new.store)
-      → Makes h c r (s.lsn new.store) m.blocks (s.blocks new.store)
-  made_of m h c r old new is makes =
-      subst (λ (b : List (List ℕ)). Makes h c r (s.lsn new.store) b (s.blocks new.store)) (sym is.blocks) makes
+  -- by what it says of a write's, which may be made behind some of the dead
+  pub made_write : (c : Call) (old new : EngineView S) (a b : Answer) (fault : Bool) → b ≡ a → is_fault b ≡ fault → ((h : State) → Stands s h old → Behind s (ClearsTo h c a) h c a old new)
+      → SameStore s old.store new.store → IsCountedAs (s.faults old.store) (s.faults new.store) fault → Made s c b old new
+  made_write c old new a b fault is f did same disk =
+      let e : is_fault a ≡ fault = sym (ap is_fault is) ∙ f in
+      subst (λ (r : Answer). Made s c r old new) (sym is)
+      (record {
+        did = λ h st.
+            let b = did h st in
+            record {
+              ready = b.ready;
+              clears = b.clears;
+              mid = b.mid;
+              lsn = b.led.lsn;
+              back = b.led.back;
+              does = b.does;
+              makes = b.makes;
+              lost = b.lost;
+              few = b.few;
+              survives = b.survives;
+            };
+        same = same;
+        disk = subst (λ (x : Bool). IsCountedAs (s.faults old.store) (s.faults new.store) x) (sym e) disk;
+      })
+
+  -- the machine in the state in which a call is made, once the dead that stood in its way are put back
+  abbrev pub ready_at : Logged → State → EngineView S → Logged
+  ready_at m ready mid = record { state = ready; lsn = s.lsn mid.store; fault = m.fault; blocks = s.blocks mid.store }
+
+  -- what was put back of the store's blocks, was of the machine's
+  pub readied_at : (m : Logged) (h : State) (c : Call) (r : Answer) (ready : State) (old mid : EngineView S) → m.lsn ≡ s.lsn old.store → m.blocks ≡ s.blocks old.store → ClearsTo h c r ready → s.lsn mid.store ≡ s.lsn old.store + cleared_by h ready
+      → BackBy h.shape (cleared_by h ready) (s.blocks old.store) (s.blocks mid.store) → Readied (record m { state = h }) engine_outside c r (ready_at m ready mid)
+  readied_at m h c r ready old mid number blocks clears lsn back = record {
+    state = clears;
+    lsn = lsn ∙ ap (λ (n : ℕ). n + cleared_by h ready) (sym number);
+    fault = refl;
+    back = subst (λ (b : List (List ℕ)). BackBy h.shape (cleared_by h ready) b (s.blocks mid.store)) (sym blocks) back;
+  }
 
   -- from a state that the engine stood for, to the one that it stands for after the call
   pub did_call : (m : Logged) (c : Call) (r : Answer) (old new : EngineView S) (P : Logged → Type 0) → StandsAs s old m → m.state.stopped ≡ false → Made s c r old new
       → ((now : Logged) → CallOut m engine_outside c r now → P now) → Did (StandsAs s) (IsSince s) old new m P
   did_call m c r old new P is going made so =
-      let does = made.did m.state is.engine in
+      let from = made.did m.state is.engine in
+      let does = from.does in
       let no_fault : does.now.stopped ≡ false → is_fault r ≡ false = λ on. ⊎_elim
-      (λ (e : is_fault r ≡ true). absurd (false≢true (sym on ∙ ap (λ (h : State). h.stopped) (after_stops m.state does.now c r e does.after))))
+      (λ (e : is_fault r ≡ true). absurd (false≢true (sym on ∙ ap (λ (h : State). h.stopped) (after_stops from.ready does.now c r e does.after))))
       (λ (e : is_fault r ≡ false). e)
       (cases_Bool (is_fault r)) in
       let now : Logged = record { state = does.now; lsn = s.lsn new.store; fault = failed_in c r m.fault; blocks = s.blocks new.store } in
       record {
         now = now;
         reached = record { engine = does.stands; lsn = refl; blocks = refl };
-        passed = record { same = made.same; crash = λ kept. does.survives m.fault going kept; still = λ on. made.disk.still (no_fault on) };
+        passed = record { same = made.same; crash = λ kept. from.survives m.fault going kept; still = λ on. made.disk.still (no_fault on) };
         ran = so now (record {
-          reply = subst (λ (n : ℕ). MayAnswer m.state n c r) (sym is.lsn) does.reply;
-          worn = λ n gone old_one. subst (λ (b : List (List ℕ)). IsWorn m.state b c n gone) (sym is.blocks) (worn_by s m.state old c n gone (made.lost m.state is.engine n gone old_one));
-          state = does.after;
-          fault = refl;
-          groups = does.groups;
-          grows = does.grows;
-          few = does.few going;
-          lsn = λ on. does.lsn on ∙ ap (λ (n : ℕ). n + does.groups) (sym is.lsn);
-          makes = λ on. (made_of m m.state c r old new is (made.makes m.state is.engine (no_fault on)), ((does.stands.goes on).xids, (does.stands.goes on).holds.blocks));
+          ready = ready_at m from.ready from.mid;
+          readied = readied_at m m.state c r from.ready old from.mid is.lsn is.blocks from.clears from.lsn from.back;
+          made = record {
+            reply = does.reply;
+            worn = λ n gone old_one. worn_by s from.ready from.mid c n gone (from.lost n gone old_one);
+            state = does.after;
+            fault = refl;
+            groups = does.groups;
+            grows = does.grows;
+            lsn = does.lsn;
+            makes = λ on. (from.makes (no_fault on), ((does.stands.goes on).xids, (does.stands.goes on).holds.blocks));
+          };
+          few = λ on. let n = is.lsn in let few = from.few going on in omega (arith, n, few);
         });
       }
 
@@ -171,8 +229,6 @@ pub did_still : {M : Type 0} {stands : M → Logged → Type 0} {since : M → M
 did_still {M} {stands} {since} old mid new m P still did = subst (λ (x : M). Did stands since old x m P) (sym still) did
 
 module _ {S : Type 0} (s : Ghosts S) (m : Logged) (w : ℕ) (outcome : Result Wrote Refusal) (old new : EngineView S) (is : StandsAs s old m) (going : m.state.stopped ≡ false) (same : SameStore s old.store new.store)
-    (lost : (scn gone : ℕ) → outcome ≡ Err (TooOld scn gone) → ResumeNeedsLost s m.state old w scn gone)
-    (makes : is_fault (write_answer outcome) ≡ false → ResumeMakes m.state (Some (w, outcome)) (s.lsn new.store) (s.blocks old.store) (s.blocks new.store))
     (quiet : is_fault (write_answer outcome) ≡ false → s.faults new.store ≡ s.faults old.store) where
   abbrev r : Answer
   r = write_answer outcome
@@ -181,42 +237,24 @@ module _ {S : Type 0} (s : Ghosts S) (m : Logged) (w : ℕ) (outcome : Result Wr
   call a = Write w a.table a.key a.action
 
   abbrev Again : Asked → Type 0
-  Again a = Does s (unqueued m.state w) (call a) r old new
+  Again a = Behind s (ClearsTo (unqueued m.state w) (call a) r) (unqueued m.state w) (call a) r old new
 
-  -- the engine's last log number is the machine's
-  told_reply : (a : Asked) → Again a → MayAnswer (unqueued m.state w) m.lsn (call a) r
-  told_reply a does = subst (λ (n : ℕ). MayAnswer (unqueued m.state w) n (call a) r) (sym is.lsn) does.reply
-
-  -- the write with which the session waited
-  asked_is : (a b : Asked) → asked_of m.state w ≡ Some a → asked_of m.state w ≡ Some b → b ≡ a
-  asked_is a b one two = let same : Some b ≡ Some a = sym two ∙ one in cc
-
-  -- where it is too old, what it reads is worn
-  worn : (a : Asked) → asked_of m.state w ≡ Some a → (scn gone : ℕ) → r ≡ Refused (TooOld scn gone) → IsWorn m.state m.blocks (call a) scn gone
-  worn a known scn gone old_one =
-      let needs = lost scn gone (old_outcome outcome scn gone old_one) in
-      subst (λ (l : List (List ℕ)). IsWorn m.state l (call a) scn gone) (sym is.blocks)
-      (subst (λ (b : Asked). IsWorn m.state (s.blocks old.store) (call b) scn gone) (asked_is a needs.0 known needs.1)
-      (worn_by s m.state old (call needs.0) scn gone needs.2))
-
-  -- and what it makes of the machine's blocks
-  made : (a : Asked) → asked_of m.state w ≡ Some a → is_fault r ≡ false → Makes (unqueued m.state w) (call a) r (s.lsn new.store) m.blocks (s.blocks new.store)
-  made a known e =
-      let all = makes e in
-      made_of s m (unqueued m.state w) (call a) r old new is
-      (subst (λ (b : Asked). Makes (unqueued m.state w) (call b) r (s.lsn new.store) (s.blocks old.store) (s.blocks new.store)) (asked_is a all.0 known all.1) all.2)
+  -- the dead that stood in its way are put back
+  readied : (a : Asked) (b : Again a) → Readied (left_queue m w) engine_outside (call a) r (ready_at s m b.ready b.mid)
+  readied a b = readied_at s m (unqueued m.state w) (call a) r b.ready old b.mid is.lsn is.blocks b.clears b.led.lsn b.led.back
 
   -- no fault: the state after the write
   fine : (P : Logged → Type 0) (a : Asked) → asked_of m.state w ≡ Some a → first_ready m.state.queue ≡ Some w → Again a → is_fault r ≡ false
       → ((now : Logged) → TriedAgain m engine_outside w r now → P now) → Did (StandsAs s) (IsSince s) old new m P
-  fine P a known ready does e so =
+  fine P a known ready b e so =
+      let does = b.does in
       let now : Logged = record { state = does.now; lsn = s.lsn new.store; fault = failed_in (call a) r m.fault; blocks = s.blocks new.store } in
       record {
         now = now;
         reached = record { engine = does.stands; lsn = refl; blocks = refl };
         passed = record {
           same = same;
-          crash = λ kept. survives_from m.state (left_by w m.state.queue) m.state.asked s (s.slots old.store) now.fault does.now old.store new.store (does.survives m.fault going kept);
+          crash = λ kept. survives_from m.state (left_by w m.state.queue) m.state.asked s (s.slots old.store) now.fault does.now old.store new.store (b.survives m.fault going kept);
           still = λ on. quiet e;
         };
         ran = so now (record {
@@ -224,29 +262,31 @@ module _ {S : Type 0} (s : Ghosts S) (m : Logged) (w : ℕ) (outcome : Result Wr
           known = known;
           ready = ready;
           resumed = record {
-            reply = told_reply a does;
-            worn = worn a known;
-            state = subst (λ (v : Bool). MatchBool v (does.now ≡ record m.state { stopped = true }) (After (unqueued m.state w) (call a) r does.now)) (sym e) does.after;
+            ready = ready_at s m b.ready b.mid;
+            readied = readied a b;
+            reply = does.reply;
+            worn = λ n gone old_one. worn_by s b.ready b.mid (call a) n gone (b.lost n gone old_one);
+            state = subst (λ (v : Bool). MatchBool v (does.now ≡ record b.ready { queue = m.state.queue; stopped = true }) (After b.ready (call a) r does.now)) (sym e) does.after;
             fault = refl;
             groups = does.groups;
             grows = does.grows;
-            few = does.few going;
-            lsn = λ on. does.lsn on ∙ ap (λ (n : ℕ). n + does.groups) (sym is.lsn);
-            makes = λ on. (made a known e, ((does.stands.goes on).xids, (does.stands.goes on).holds.blocks));
+            few = λ on. let n = is.lsn in let few = b.few going on in omega (arith, n, few);
+            lsn = does.lsn;
+            makes = λ on. (b.makes e, ((does.stands.goes on).xids, (does.stands.goes on).holds.blocks));
           };
-          stopped = (fine_stays (unqueued m.state w) does.now (call a) r e does.after).stopped ∙ going ∙ sym e;
+          stopped = (fine_stays b.ready does.now (call a) r e does.after).stopped ∙ b.led.rest.stopped ∙ going ∙ sym e;
         });
       }
 
   -- a fault: the session keeps its place
   failed : (P : Logged → Type 0) (a : Asked) → asked_of m.state w ≡ Some a → first_ready m.state.queue ≡ Some w → Again a → is_fault r ≡ true
       → ((now : Logged) → TriedAgain m engine_outside w r now → P now) → Did (StandsAs s) (IsSince s) old new m P
-  failed P a known ready does e so =
-      let left : State = record (unqueued m.state w) { stopped = true } in
-      let halted : State = record m.state { stopped = true } in
+  failed P a known ready b e so =
+      let left : State = record b.ready { stopped = true } in
+      let halted : State = record b.ready { queue = m.state.queue; stopped = true } in
       let now : Logged = record { state = halted; lsn = s.lsn new.store; fault = failed_in (call a) r m.fault; blocks = s.blocks new.store } in
-      let after : does.now ≡ left = after_stops (unqueued m.state w) does.now (call a) r e does.after in
-      let stands : Stands s left new = subst (λ (h : State). Stands s h new) after does.stands in
+      let after : b.does.now ≡ left = after_stops b.ready b.does.now (call a) r e b.does.after in
+      let stands : Stands s left new = subst (λ (h : State). Stands s h new) after b.does.stands in
       record {
         now = now;
         reached = record {
@@ -255,15 +295,16 @@ module _ {S : Type 0} (s : Ghosts S) (m : Logged) (w : ℕ) (outcome : Result Wr
             shape = stands.shape;
             knows = record { sixteen = stands.knows.sixteen; stopped = stands.knows.stopped; scn = stands.knows.scn; queue = λ on. absurd (false≢true (sym on)) };
             goes = λ on. absurd (false≢true (sym on));
+            owes = λ on. absurd (false≢true (sym on));
           };
           lsn = refl;
           blocks = refl;
         };
         passed = record {
           same = same;
-          crash = λ kept. survives_queue left m.state.queue m.state.asked s (s.slots old.store) now.fault m.state old.store new.store
+          crash = λ kept. survives_queue left m.state.queue b.ready.asked s (s.slots old.store) now.fault m.state old.store new.store
               (survives_from m.state (left_by w m.state.queue) m.state.asked s (s.slots old.store) now.fault left old.store new.store
-              (subst (λ (h : State). Survives s (s.slots old.store) now.fault (unqueued m.state w) h old.store new.store) after (does.survives m.fault going kept)));
+              (subst (λ (h : State). Survives s (s.slots old.store) now.fault (unqueued m.state w) h old.store new.store) after (b.survives m.fault going kept)));
           still = λ on. absurd (false≢true (sym on));
         };
         ran = so now (record {
@@ -271,9 +312,11 @@ module _ {S : Type 0} (s : Ghosts S) (m : Logged) (w : ℕ) (outcome : Result Wr
           known = known;
           ready = ready;
           resumed = record {
-            reply = told_reply a does;
-            worn = worn a known;
-            state = subst (λ (v : Bool). MatchBool v (halted ≡ halted) (After (unqueued m.state w) (call a) r halted)) (sym e) refl;
+            ready = ready_at s m b.ready b.mid;
+            readied = readied a b;
+            reply = b.does.reply;
+            worn = λ n gone old_one. worn_by s b.ready b.mid (call a) n gone (b.lost n gone old_one);
+            state = subst (λ (v : Bool). MatchBool v (halted ≡ halted) (After b.ready (call a) r halted)) (sym e) refl;
             fault = refl;
             groups = 0;
             grows = λ on. absurd (false≢true (sym on));
@@ -287,7 +330,7 @@ module _ {S : Type 0} (s : Ghosts S) (m : Logged) (w : ℕ) (outcome : Result Wr
 
   pub did_resume : (P : Logged → Type 0) → Resumes s m.state (Some (w, outcome)) old new
       → ((now : Logged) → TriedAgain m engine_outside w r now → P now) → Did (StandsAs s) (IsSince s) old new m P
-  did_resume P (on, ready, a, known, does) so = ⊎_elim
-      (λ (e : is_fault r ≡ true). failed P a known ready does e so)
-      (λ (e : is_fault r ≡ false). fine P a known ready does e so)
+  did_resume P (on, ready, a, known, b) so = ⊎_elim
+      (λ (e : is_fault r ≡ true). failed P a known ready b e so)
+      (λ (e : is_fault r ≡ false). fine P a known ready b e so)
       (cases_Bool (is_fault r))

@@ -3,8 +3,8 @@ use Rattle.std.specs.Prelude.{ℕ, Option, None, Some}
 use Rattle.rb_model.specs.declared.outcome.Outcome as code
 use Rattle.rb_model.specs.declared.outcome.Outcome.TheVariants as answers
 
--- An answer that a call of that session has, or one of none: what a segment or a session tells of itself and what a
--- flush has made last are told to none, and what only a session's call answers to a session.
+-- An answer that a call of that session has, or one of none: what a segment or a session tells of itself, what a
+-- flush has made last and what a sweep put back are told to none, and what only a session's call answers to a session.
 abbrev pub FitsCaller : Option ℕ → code.Outcome → Type 0
 FitsCaller to answers.Done = Unit {0}
 FitsCaller to (answers.Refused why) = Unit {0}
@@ -18,6 +18,8 @@ FitsCaller None (answers.Numbered number) = ⊥
 FitsCaller (Some s) (answers.Numbered number) = Unit {0}
 FitsCaller None (answers.Flushed number) = Unit {0}
 FitsCaller (Some s) (answers.Flushed number) = ⊥
+FitsCaller None (answers.Swept changes) = Unit {0}
+FitsCaller (Some s) (answers.Swept changes) = ⊥
 FitsCaller None (answers.Shown session activity) = Unit {0}
 FitsCaller (Some s) (answers.Shown session activity) = ⊥
 FitsCaller None answers.Idle = Unit {0}

@@ -11,6 +11,7 @@ use Rattle.law_crash.proofs.Steps.{left_with, restarts_some}
 use Rattle.law_crash.specs.Between.{at_end, up_to}
 use Rattle.law_crash.specs.Crash.{OnTheWay, Restarts, Survives}
 use Rattle.law_crash.specs.Images.{HasSome}
+use Rattle.law_crash.specs.Made.{BackBy}
 use Rattle.rb_model.specs.Calls.{Answer, Call}
 use Rattle.rb_model.specs.Out.{Logged, Outside, outside_by}
 use Rattle.rb_model.specs.State.{State}
@@ -20,9 +21,13 @@ use Rattle.rb_rollback.specs.Backs.{SameStore}
 abbrev pub MakesOf : Logged → Call → Answer → Logged → Type 0
 MakesOf m call answer m2 = Makes m.state call answer m2.lsn m.blocks m2.blocks × StandFor m2.state m2.blocks
 
+-- what the groups that put back the dead make of the machine's blocks
+abbrev pub BackOf : Logged → ℕ → Logged → Type 0
+BackOf m groups m2 = BackBy m.state.shape groups m.blocks m2.blocks
+
 -- what answers hang on besides the state
 abbrev pub engine_outside : Outside
-engine_outside = outside_by IsWorn MakesOf
+engine_outside = outside_by IsWorn BackOf MakesOf
 
 -- An engine stands for a state, and the last log number and the blocks are those of its store.
 pub record StandsAs {S : Type 0} (s : Ghosts S) (e : EngineView S) (m : Logged) : Type 0 where

@@ -4,7 +4,7 @@ ghost use Rattle.rb_model.specs.Out as lines;
 ghost use Rattle.rb_base.specs.Counts.{err_is};
 ghost use Rattle.rb_calls.specs.Fits.{FitsCaller};
 ghost use Rattle.rb_model.specs.Answers.{answer_of, write_answer, plain_answer, commit_answer, fetch_answer};
-ghost use Rattle.rb_model.specs.Answers.{activity_answer, flush_answer, get_answer, marks_answer};
+ghost use Rattle.rb_model.specs.Answers.{activity_answer, flush_answer, get_answer, marks_answer, sweep_answer};
 ghost use Rattle.rb_model.specs.Calls as machine;
 ghost use Rattle.rb_model.specs.Calls.{is_disk_fault as is_fault_of_disk, is_fault};
 
@@ -57,6 +57,18 @@ pub fn answer_to_flush(outcome: Result<u64, Refusal>) -> Outcome
 {
     match outcome {
         Ok(number) => Outcome::Flushed { number },
+        Err(why) => Outcome::Refused { why },
+    }
+}
+
+/// The answer of a sweep.
+pub fn answer_to_sweep(outcome: Result<u32, Refusal>) -> Outcome
+    ensures answer { (row : Row) → answer_of result row ≡ sweep_answer outcome }
+    ensures fault { (row : Row) → is_fault (answer_of result row) ≡ err_is is_fault_of_disk outcome }
+    ensures fits { FitsCaller None result }
+{
+    match outcome {
+        Ok(changes) => Outcome::Swept { changes },
         Err(why) => Outcome::Refused { why },
     }
 }

@@ -12,7 +12,7 @@ ghost use Rattle.rb_script.specs.Commands.{asked_by, command_of};
 
 use crate::answers::{
     answer_to_activity, answer_to_call, answer_to_commit, answer_to_commit_later, answer_to_fetch,
-    answer_to_flush, answer_to_get, answer_to_marks, answer_to_write,
+    answer_to_flush, answer_to_get, answer_to_marks, answer_to_sweep, answer_to_write,
 };
 use rb_base::{Shape, Store};
 use rb_engine::{Ahead, Engine};
@@ -122,6 +122,7 @@ pub fn answer<T: Store>(
         Command::Marks => answer_of_segment(engine, k),
         Command::Sessions => answer_of_session(engine, k),
         Command::Flush => answer_to_flush(engine.flush()),
+        Command::Sweep { changes } => answer_to_sweep(engine.sweep(*changes)),
         Command::Checkpoint => answer_to_call(engine.checkpoint()),
     }
 }

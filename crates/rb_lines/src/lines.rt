@@ -69,7 +69,7 @@ pub fn run_lines<M: LineRunner, S: Source, K: Sink>(
     // Which lines were done, and what became of the runner's file.
     ensures did { S.tells → (m : Logged) → M.stands runner.old m → m.state.stopped ≡ false
         → Did M.stands M.since runner.old runner.new m
-        (λ now. EndsAs (outside_by M.worn M.makes) (length buffer.old) m now
+        (λ now. EndsAs (outside_by M.worn M.back M.makes) (length buffer.old) m now
         (S.left source.old) (S.left source.new) K.tells (K.held sink.old) (K.held sink.new) result) }
 
     // What became of its file, also where the source doesn't tell.

@@ -33,7 +33,7 @@ fn end_line<M: LineRunner, K: Sink>(
 ) -> Result<(), StepFault>
     ensures did { (m : Logged) (line : List ℕ) → M.stands runner.old m → m.state.stopped ≡ false
         → partial.old.items ≡ take 513 line → Did M.stands M.since runner.old runner.new m
-        (λ now. RanAs (outside_by M.worn M.makes) m now ((line ++ bytes.now) ∷ []) K.tells (K.held sink.old)
+        (λ now. RanAs (outside_by M.worn M.back M.makes) m now ((line ++ bytes.now) ∷ []) K.tells (K.held sink.old)
         (K.held sink.new) result) }
     ensures kept { OnOk result (partial.new.items ≡ []) }
     ensures disk { IsCountedBeside (M.faults runner.old) (M.faults runner.new) (err_is is_disk result)
@@ -58,7 +58,7 @@ pub fn feed<M: LineRunner, K: Sink>(
 ) -> Result<(), StepFault>
     ensures did { (m : Logged) (line : List ℕ) → M.stands runner.old m → m.state.stopped ≡ false
         → partial.old.items ≡ take 513 line → Did M.stands M.since runner.old runner.new m
-        (λ now. RanAs (outside_by M.worn M.makes) m now (lines_from line bytes.now) K.tells (K.held sink.old)
+        (λ now. RanAs (outside_by M.worn M.back M.makes) m now (lines_from line bytes.now) K.tells (K.held sink.old)
         (K.held sink.new) result) }
     ensures kept { OnOk result ((line : List ℕ) → partial.old.items ≡ take 513 line
         → partial.new.items ≡ take 513 (rest_from line bytes.now)) }
@@ -83,7 +83,7 @@ pub fn finish<M: LineRunner, K: Sink>(
 ) -> Result<(), StepFault>
     ensures did { (m : Logged) (line : List ℕ) → M.stands runner.old m → m.state.stopped ≡ false
         → partial.now.items ≡ take 513 line → Did M.stands M.since runner.old runner.new m
-        (λ now. RanAs (outside_by M.worn M.makes) m now (last_of line) K.tells (K.held sink.old)
+        (λ now. RanAs (outside_by M.worn M.back M.makes) m now (last_of line) K.tells (K.held sink.old)
         (K.held sink.new) result) }
     ensures disk { IsCountedBeside (M.faults runner.old) (M.faults runner.new) (err_is is_disk result)
         (err_is is_sink result) }

@@ -32,6 +32,9 @@ pub trait LineRunner {
     /// given up.
     ghost worn: { State → List (List ℕ) → Call → ℕ → ℕ → Type 0 };
 
+    /// What so many groups that put back the dead make of the machine's blocks.
+    ghost back: { Logged → ℕ → Logged → Type 0 };
+
     /// What a call in a state with an answer makes of the machine's blocks.
     ghost makes: { Logged → Call → Answer → Logged → Type 0 };
 
@@ -46,7 +49,7 @@ pub trait LineRunner {
     fn run_line<K: Sink>(&mut self, line: &[u8], sink: &mut K) -> Result<(), StepFault>
         ensures did { (m : Logged) → stands self.old m → m.state.stopped ≡ false
             → Did stands since self.old self.new m
-            (λ now. LineRanAs (outside_by worn makes) m now line.now K.tells (K.held sink.old)
+            (λ now. LineRanAs (outside_by worn back makes) m now line.now K.tells (K.held sink.old)
             (K.held sink.new) result) }
         ensures disk { IsCountedBeside (faults self.old) (faults self.new) (err_is is_disk result)
             (err_is is_sink result) }

@@ -1,4 +1,4 @@
-use Rattle.std.proofs.Common.{ℕ, Option, None, sym, subst}
+use Rattle.std.proofs.Common.{refl, ℕ, Option, None, sym, subst}
 use Rattle.rb_model.specs.Answers.{answer_of}
 use Rattle.rb_model.specs.Lines.{call_of, caller}
 use Rattle.rb_script.specs.Commands.{command_of}
@@ -22,11 +22,15 @@ returns-in-Sessions-clause-fits g c = subst (λ (command : Command). FitsCaller 
 
 pub returns-in-Flush-clause-made : goal.returns-in-Flush-clause-made
 returns-in-Flush-clause-made g c = subst (λ (command : Command). Made g.T.Store (call_of (command_of command) c.args.k) (answer_of c.answer_to_flush.result c.args.row.now) c.args.engine.now c.flush.new.self) (sym c.in-Flush.is)
-    (made_by g.T.Store _ c.args.engine.now c.flush.new.self _ _ _ (c.answer_to_flush.ensures.answer c.args.row.now) (c.answer_to_flush.ensures.fault c.args.row.now) c.flush.ensures.did c.flush.ensures.makes (λ h st scn lost is. tt) c.flush.ensures.same c.flush.ensures.disk)
+    (made_by g.T.Store _ c.args.engine.now c.flush.new.self _ _ _ (λ h. refl) (c.answer_to_flush.ensures.answer c.args.row.now) (c.answer_to_flush.ensures.fault c.args.row.now) c.flush.ensures.did c.flush.ensures.makes (λ h st scn lost is. tt) c.flush.ensures.same c.flush.ensures.disk)
+
+pub returns-in-Sweep-clause-made : goal.returns-in-Sweep-clause-made
+returns-in-Sweep-clause-made g c = subst (λ (command : Command). Made g.T.Store (call_of (command_of command) c.args.k) (answer_of c.answer_to_sweep.result c.args.row.now) c.args.engine.now c.sweep.new.self) (sym c.in-Sweep.is)
+    (made_by g.T.Store _ c.args.engine.now c.sweep.new.self _ _ _ (λ h. refl) (c.answer_to_sweep.ensures.answer c.args.row.now) (c.answer_to_sweep.ensures.fault c.args.row.now) c.sweep.ensures.did c.sweep.ensures.makes (λ h st scn lost is. tt) c.sweep.ensures.same c.sweep.ensures.disk)
 
 pub returns-in-Checkpoint-clause-made : goal.returns-in-Checkpoint-clause-made
 returns-in-Checkpoint-clause-made g c = subst (λ (command : Command). Made g.T.Store (call_of (command_of command) c.args.k) (answer_of c.answer_to_call.result c.args.row.now) c.args.engine.now c.checkpoint.new.self) (sym c.in-Checkpoint.is)
-    (made_by g.T.Store _ c.args.engine.now c.checkpoint.new.self _ _ _ (c.answer_to_call.ensures.answer c.args.row.now) (c.answer_to_call.ensures.fault c.args.row.now) c.checkpoint.ensures.did c.checkpoint.ensures.makes (λ h st scn lost is. tt) c.checkpoint.ensures.same c.checkpoint.ensures.disk)
+    (made_by g.T.Store _ c.args.engine.now c.checkpoint.new.self _ _ _ (λ h. refl) (c.answer_to_call.ensures.answer c.args.row.now) (c.answer_to_call.ensures.fault c.args.row.now) c.checkpoint.ensures.did c.checkpoint.ensures.makes (λ h st scn lost is. tt) c.checkpoint.ensures.same c.checkpoint.ensures.disk)
 
 pub returns-in-Session-clause-fits : goal.returns-in-Session-clause-fits
 returns-in-Session-clause-fits g c = subst (λ (command : Command). FitsCaller (caller (command_of command)) c.answer_to_request.result) (sym c.in-Session.is)

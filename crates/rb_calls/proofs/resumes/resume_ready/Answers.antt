@@ -1,6 +1,6 @@
 use Rattle.std.proofs.Common.{◌≡◌, ◌+◌, ◌∙◌, ℕ, [], true, false, Option, None, Some, is_some, refl, sym, ap, subst, arith}
 use Rattle.rb_base.specs.Counts.{Rose}
-use Rattle.rb_calls.proofs.CallLemmas.{did_resume, did_still, fewer_on, none_some, tried_old}
+use Rattle.rb_calls.proofs.CallLemmas.{did_resume, did_still, fewer_on, none_some}
 use Rattle.rb_calls.proofs.ResumeLemmas.{few_more, few_within, resumed_all, resumed_fails, resumed_more, resumed_none}
 use Rattle.rb_calls.specs.Since.{IsSince, StandsAs, since_same, since_joined}
 use Rattle.rb_engine.specs.Does.{EngineView}
@@ -66,7 +66,7 @@ returns-in_default-clause-few g c = few_within g.L.Listener.heard c.loop-turn._t
 pub returns-then-has_failed-clause-did : goal.returns-then-has_failed-clause-did
 returns-then-has_failed-clause-did g c = λ m is going.
     did_on c.args.engine.now c.loop-turn.engine c.resume.new.self m _ _ _ (λ a b d h n k. since_joined a b d h n k) (c.loop-turn.invariant.so_far m is going) (λ n so. so.going)
-    (λ n reached on. did_resume g.T.Store n c.in-Some.s c.in-Some.outcome c.loop-turn.engine c.resume.new.self reached on c.resume.ensures.same (λ scn lost is. c.in-Some.ensures.lost n.state reached.engine c.in-Some.s scn lost (tried_old c.in-Some.s c.in-Some.outcome scn lost is)) (λ fine. c.in-Some.ensures.makes n.state reached.engine (fault_of_write c.in-Some.outcome ∙ fine)) (λ fine. c.in-Some.ensures.disk.still (fault_of_write c.in-Some.outcome ∙ fine)) _ (c.in-Some.ensures.did n.state reached.engine) (λ now again. again))
+    (λ n reached on. did_resume g.T.Store n c.in-Some.s c.in-Some.outcome c.loop-turn.engine c.resume.new.self reached on c.resume.ensures.same (λ fine. c.in-Some.ensures.disk.still (fault_of_write c.in-Some.outcome ∙ fine)) _ (c.in-Some.ensures.did n.state reached.engine) (λ now again. again))
     (λ n k so again. resumed_fails g.L.Listener.heard m n k _ c.in-Some.s _ _ _ _ so again c.hear.ensures.heard (sym c.has_failed.ensures ∙ c.if-has_failed.true))
 
 pub returns-then-has_failed-clause-few : goal.returns-then-has_failed-clause-few
@@ -87,7 +87,7 @@ loop-turn-preserved g c =
     let fine = sym c.has_failed.ensures ∙ c.if-has_failed.false in
     record {
       so_far = λ m is going. did_on c.args.engine.now c.loop-turn.engine c.resume.new.self m _ _ _ (λ a b d h n k. since_joined a b d h n k) (i.so_far m is going) (λ n so. so.going)
-          (λ n reached on. did_resume g.T.Store n c.in-Some.s c.in-Some.outcome c.loop-turn.engine c.resume.new.self reached on c.resume.ensures.same (λ scn lost is. c.in-Some.ensures.lost n.state reached.engine c.in-Some.s scn lost (tried_old c.in-Some.s c.in-Some.outcome scn lost is)) (λ fine. c.in-Some.ensures.makes n.state reached.engine (fault_of_write c.in-Some.outcome ∙ fine)) (λ fine. c.in-Some.ensures.disk.still (fault_of_write c.in-Some.outcome ∙ fine)) _ (c.in-Some.ensures.did n.state reached.engine) (λ now again. again))
+          (λ n reached on. did_resume g.T.Store n c.in-Some.s c.in-Some.outcome c.loop-turn.engine c.resume.new.self reached on c.resume.ensures.same (λ fine. c.in-Some.ensures.disk.still (fault_of_write c.in-Some.outcome ∙ fine)) _ (c.in-Some.ensures.did n.state reached.engine) (λ now again. again))
           (λ n k so again. resumed_more g.L.Listener.heard m n k _ c.in-Some.s _ _ _ _ so again c.hear.ensures.heard fine);
       fewer = λ one. fewer_on _ _ c.loop-turn._turn c.in-Some.ensures.fewer c.resume.ensures.few i.fewer;
       room = omega (arith, i.room, c.hear.ensures.room);

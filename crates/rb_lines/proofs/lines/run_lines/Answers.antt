@@ -49,7 +49,7 @@ returns-in-Err-clause-did g c = λ t m is going.
     let i = c.loop-room.invariant in
     let p = i.part t in
     let none = c.in-Ok.ensures.end t c.if-count-eq0.true in
-    subst (λ (end : LinesEnd). Did g.M.LineRunner.stands g.M.LineRunner.since c.args.runner.now c.finish.new.runner m (λ now. EndsAs (outside_by g.M.LineRunner.worn g.M.LineRunner.makes) (length c.args.buffer.now) m now (g.S.Source.left c.args.source.now) (g.S.Source.left c.take_bytes.new.source) g.K.Sink.tells (g.K.Sink.held c.args.sink.now) (g.K.Sink.held c.finish.new.sink) end)) (sym c.from.ensures)
+    subst (λ (end : LinesEnd). Did g.M.LineRunner.stands g.M.LineRunner.since c.args.runner.now c.finish.new.runner m (λ now. EndsAs (outside_by g.M.LineRunner.worn g.M.LineRunner.back g.M.LineRunner.makes) (length c.args.buffer.now) m now (g.S.Source.left c.args.source.now) (g.S.Source.left c.take_bytes.new.source) g.K.Sink.tells (g.K.Sink.held c.args.sink.now) (g.K.Sink.held c.finish.new.sink) end)) (sym c.from.ensures)
     (last_fails _ _ _ _ _ m _ _ g.K.Sink.tells _ _ _ _ _ _ _ c.loop-room.room c.in-Err.fault g.met.M.LineRunner.since_joined p none (c.in-Ok.ensures.taken t ∙ ap (λ (n : ℕ). take n c.take_bytes.new.buffer ++ g.S.Source.left c.take_bytes.new.source) c.if-count-eq0.true) is going
     (λ k reached on. c.in-Err.ensures.did k (rest_from [] p.taken) reached on p.rest))
 
@@ -80,7 +80,7 @@ returns-in-Err-feed-clause-did g c = λ t m is going.
     let o = c.in-Ok.ensures in
     let p = i.part t in
     let size : length (take c.in-Ok.count c.take_bytes.new.buffer) ≤ length c.args.buffer.now = omega (arith, length-take-le c.in-Ok.count c.take_bytes.new.buffer o.buffer, o.buffer, c.take_bytes.auto.buffer, i.buffer) in
-    subst (λ (end : LinesEnd). Did g.M.LineRunner.stands g.M.LineRunner.since c.args.runner.now c.feed.new.runner m (λ now. EndsAs (outside_by g.M.LineRunner.worn g.M.LineRunner.makes) (length c.args.buffer.now) m now (g.S.Source.left c.args.source.now) (g.S.Source.left c.take_bytes.new.source) g.K.Sink.tells (g.K.Sink.held c.args.sink.now) (g.K.Sink.held c.feed.new.sink) end)) (sym c.from-in-Err-feed.ensures)
+    subst (λ (end : LinesEnd). Did g.M.LineRunner.stands g.M.LineRunner.since c.args.runner.now c.feed.new.runner m (λ now. EndsAs (outside_by g.M.LineRunner.worn g.M.LineRunner.back g.M.LineRunner.makes) (length c.args.buffer.now) m now (g.S.Source.left c.args.source.now) (g.S.Source.left c.take_bytes.new.source) g.K.Sink.tells (g.K.Sink.held c.args.sink.now) (g.K.Sink.held c.feed.new.sink) end)) (sym c.from-in-Err-feed.ensures)
     (piece_fails _ _ _ _ _ m _ _ g.K.Sink.tells _ _ _ _ _ _ _ c.loop-room.room (take c.in-Ok.count c.take_bytes.new.buffer) c.in-Err-feed.fault g.met.M.LineRunner.since_joined p size (o.taken t) is going
     (λ k reached on. c.in-Err-feed.ensures.did k (rest_from [] p.taken) reached on p.rest))
 

@@ -9,7 +9,7 @@ invariant-loop-room g l = record {
   buffer : length l.buffer ≡ length l.initial.buffer;
   some : 0 < length l.buffer;
   room : l.room ≤ 1000000000;
-  part : g.S.Source.tells → Part g.M.LineRunner.stands g.M.LineRunner.since l.initial.runner l.runner (outside_by g.M.LineRunner.worn g.M.LineRunner.makes) g.K.Sink.tells (g.K.Sink.held l.initial.sink) (g.K.Sink.held l.sink) (g.S.Source.left l.initial.source) (g.S.Source.left l.source) l.partial.items l.room;
+  part : g.S.Source.tells → Part g.M.LineRunner.stands g.M.LineRunner.since l.initial.runner l.runner (outside_by g.M.LineRunner.worn g.M.LineRunner.back g.M.LineRunner.makes) g.K.Sink.tells (g.K.Sink.held l.initial.sink) (g.K.Sink.held l.sink) (g.S.Source.left l.initial.source) (g.S.Source.left l.source) l.partial.items l.room;
   -- whatever the source tells: some line is under way, and the runner has come to some state
   line : List ℕ;
   held : l.partial.items ≡ take 513 line;

@@ -14,7 +14,7 @@ empty (b ∷ line) kept e none = let no : length (take 513 (b ∷ line)) ≡ 0 =
 pub returns-then-is_empty-clause-did : goal.returns-then-is_empty-clause-did
 returns-then-is_empty-clause-did g c = λ m line is going e.
     let none = eqb-true (length c.args.partial.now.items) 0 (sym c.is_empty.ensures ∙ c.if-is_empty.true) in
-    did_as _ _ m _ _ (λ n ran. subst (λ (l : List ℕ). RanAs (outside_by g.M.LineRunner.worn g.M.LineRunner.makes) m n ((l ++ c.args.bytes.now) ∷ []) g.K.Sink.tells (g.K.Sink.held c.args.sink.now) (g.K.Sink.held c.run_line.new.sink) c.run_line.result)
+    did_as _ _ m _ _ (λ n ran. subst (λ (l : List ℕ). RanAs (outside_by g.M.LineRunner.worn g.M.LineRunner.back g.M.LineRunner.makes) m n ((l ++ c.args.bytes.now) ∷ []) g.K.Sink.tells (g.K.Sink.held c.args.sink.now) (g.K.Sink.held c.run_line.new.sink) c.run_line.result)
     (sym (empty line c.args.partial.now.items e none)) (step_whole _ m n c.args.bytes.now g.K.Sink.tells _ _ c.run_line.result going ran)) (c.run_line.ensures.did m is going)
 
 pub returns-clause-did : goal.returns-clause-did

@@ -28,10 +28,10 @@ returns-in_err-end_line-clause-did g c = λ m line is going e.
     did_on c.args.runner.now c.loop-size.runner c.end_line.new.runner m _ _ _ g.met.M.LineRunner.since_joined (i.fed.2 m line is going e) (λ n so_far. so_far.1)
     (λ n reached on. c.end_line.ensures.did n (rest_from line taken) reached on (i.fed.3 line e))
     (λ n k so_far next.
-    let here = as_line (outside_by g.M.LineRunner.worn g.M.LineRunner.makes) m n k line taken rest c.in-Some.size g.K.Sink.tells _ _ _ c.end_line.result ends so_far.0 so_far.1 next in
-    let fault = subst (λ (r : Result (Unit {0}) StepFault). RanAs (outside_by g.M.LineRunner.worn g.M.LineRunner.makes) m k (lines_from line (taken ++ take (c.in-Some.size + 1) rest)) g.K.Sink.tells (g.K.Sink.held c.args.sink.now) (g.K.Sink.held c.end_line.new.sink) r)
+    let here = as_line (outside_by g.M.LineRunner.worn g.M.LineRunner.back g.M.LineRunner.makes) m n k line taken rest c.in-Some.size g.K.Sink.tells _ _ _ c.end_line.result ends so_far.0 so_far.1 next in
+    let fault = subst (λ (r : Result (Unit {0}) StepFault). RanAs (outside_by g.M.LineRunner.worn g.M.LineRunner.back g.M.LineRunner.makes) m k (lines_from line (taken ++ take (c.in-Some.size + 1) rest)) g.K.Sink.tells (g.K.Sink.held c.args.sink.now) (g.K.Sink.held c.end_line.new.sink) r)
     (same ∙ p.1) here in
-    subst (λ (r : Result (Unit {0}) StepFault). RanAs (outside_by g.M.LineRunner.worn g.M.LineRunner.makes) m k (lines_from line c.args.bytes.now) g.K.Sink.tells (g.K.Sink.held c.args.sink.now) (g.K.Sink.held c.end_line.new.sink) r)
+    subst (λ (r : Result (Unit {0}) StepFault). RanAs (outside_by g.M.LineRunner.worn g.M.LineRunner.back g.M.LineRunner.makes) m k (lines_from line c.args.bytes.now) g.K.Sink.tells (g.K.Sink.held c.args.sink.now) (g.K.Sink.held c.end_line.new.sink) r)
     (sym p.1) (as_piece _ _ _ line c.args.bytes.now (taken ++ take (c.in-Some.size + 1) rest) _ g.K.Sink.tells _ _ p.0 (split_at c.args.bytes.now taken rest (c.in-Some.size + 1) i.fed.1) going fault))
 
 pub loop-size-preserved : goal.loop-size-preserved
@@ -47,7 +47,7 @@ loop-size-preserved g c =
         split_more c.args.bytes.now taken rest (c.in-Some.size + 1) i.fed.1,
         (λ m line is going e. did_on c.args.runner.now c.loop-size.runner c.end_line.new.runner m _ _ _ g.met.M.LineRunner.since_joined (i.fed.2 m line is going e) (λ n so_far. so_far.1)
             (λ n reached on. o.did n (rest_from line taken) reached on (i.fed.3 line e))
-            (λ n k so_far next. as_line (outside_by g.M.LineRunner.worn g.M.LineRunner.makes) m n k line taken rest c.in-Some.size g.K.Sink.tells _ _ _ (Ok tt) ends so_far.0 so_far.1 next)),
+            (λ n k so_far next. as_line (outside_by g.M.LineRunner.worn g.M.LineRunner.back g.M.LineRunner.makes) m n k line taken rest c.in-Some.size g.K.Sink.tells _ _ _ (Ok tt) ends so_far.0 so_far.1 next)),
         λ line e. o.kept ∙ sym (ap (λ (l : List ℕ). take 513 l) (none_under_way line taken rest c.in-Some.size ends)),
       );
       disk = o.disk.still refl refl ∙ i.disk;
@@ -62,7 +62,7 @@ returns-clause-did g c = λ m line is going e.
     let cut : lines_from line i.fed.0 ≡ lines_from line c.args.bytes.now =
     sym (ap (λ (b : List ℕ). lines_from line b) i.fed.1 ∙ lines-append line i.fed.0 rest
     ∙ ap (λ (ls : List (List ℕ)). lines_from line i.fed.0 ++ ls) (lines_no_end (rest_from line i.fed.0) rest none) ∙ append-nil (lines_from line i.fed.0)) in
-    did_as _ _ m _ _ (λ n so_far. subst (λ (ls : List (List ℕ)). RanAs (outside_by g.M.LineRunner.worn g.M.LineRunner.makes) m n ls g.K.Sink.tells (g.K.Sink.held c.args.sink.now) (g.K.Sink.held c.loop-size.sink) (Ok tt)) cut so_far)
+    did_as _ _ m _ _ (λ n so_far. subst (λ (ls : List (List ℕ)). RanAs (outside_by g.M.LineRunner.worn g.M.LineRunner.back g.M.LineRunner.makes) m n ls g.K.Sink.tells (g.K.Sink.held c.args.sink.now) (g.K.Sink.held c.loop-size.sink) (Ok tt)) cut so_far)
     (i.fed.2 m line is going e)
 
 pub returns-clause-kept : goal.returns-clause-kept

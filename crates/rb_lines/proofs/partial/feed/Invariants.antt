@@ -10,7 +10,7 @@ invariant-loop-size g l = record {
   fed : (taken : List ℕ) × (l.bytes ≡ taken ++ l.rest)
       × ((m : Logged) (line : List ℕ) → g.M.LineRunner.stands l.initial.runner m → m.state.stopped ≡ false → l.initial.partial.items ≡ take 513 line
       → Did g.M.LineRunner.stands g.M.LineRunner.since l.initial.runner l.runner m
-      (λ now. RanAs (outside_by g.M.LineRunner.worn g.M.LineRunner.makes) m now (lines_from line taken) g.K.Sink.tells (g.K.Sink.held l.initial.sink) (g.K.Sink.held l.sink) (Ok tt)))
+      (λ now. RanAs (outside_by g.M.LineRunner.worn g.M.LineRunner.back g.M.LineRunner.makes) m now (lines_from line taken) g.K.Sink.tells (g.K.Sink.held l.initial.sink) (g.K.Sink.held l.sink) (Ok tt)))
       × ((line : List ℕ) → l.initial.partial.items ≡ take 513 line → l.partial.items ≡ take 513 (rest_from line taken));
   disk : g.M.LineRunner.faults l.runner ≡ g.M.LineRunner.faults l.initial.runner;
   sink : g.K.Sink.faults l.sink ≡ g.K.Sink.faults l.initial.sink;
