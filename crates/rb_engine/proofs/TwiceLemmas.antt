@@ -189,7 +189,7 @@ module _ {S : Type 0} (s : Ghosts S) (laws : Laws s) (h : State) (old : EngineVi
     may_cleared may = (
       λ u held. may.0 u (sym holder_same ∙ held),
       ap (λ (commits : Commits). serial_tests commits (isolation_of Cleared who) table key) rest.commits
-      ∙ (ap (λ (z : Session). serial_tests h.commits z.isolation table key) (rest.living who there.0 there.1) ∙ may.1),
+          ∙ (ap (λ (z : Session). serial_tests h.commits z.isolation table key) (rest.living who there.0 there.1) ∙ may.1),
     )
 
     passed_cleared : none_applies (key_tests Cleared who table key action) ≡ true

@@ -15,6 +15,7 @@ use Rattle.rb_generator.specs.Counted.{HasCountedOne, counts_of, no_counts, plus
 use Rattle.rb_generator.specs.Draws.{commands_of, drawn, state_after}
 use Rattle.rb_generator.specs.Ends.{EndsInFault, HasCounted, HasGenerated, StopsBy}
 use Rattle.rb_generator.specs.declared.counts.Counts.{Counts}
+use Rattle.rb_model.proofs.DeadLemmas.{clears_rest}
 use Rattle.rb_model.proofs.Stops.{after_stops, fine_stays, the_fault}
 use Rattle.rb_model.specs.Calls.{Answer, Done, Waits, Committed, Numbered, Flushed, Swept, Given, End, Absent, Marked, Shown, Idle, Refused, is_fault}
 use Rattle.rb_model.specs.Lines.{Command, call_of, most_calls}
@@ -61,8 +62,8 @@ module _ (start m mid : Logged) (outside : Outside) (c : Command) (most k : ℕ)
     (so : CallsSoFar start outside c most k m before counts) (lt : k < most) (made : CallOut m outside (call_of c k) r mid) (counted : counts2 ≡ plus counts (counts_of (r ∷ []))) where
   stopped : mid.state.stopped ≡ is_fault r
   stopped = ⊎_elim
-      (λ (e : is_fault r ≡ true). ap (λ (x : State). x.stopped) (after_stops m.state mid.state (call_of c k) r e made.state) ∙ sym e)
-      (λ (e : is_fault r ≡ false). (fine_stays m.state mid.state (call_of c k) r e made.state).stopped ∙ so.going ∙ sym e)
+      (λ (e : is_fault r ≡ true). ap (λ (x : State). x.stopped) (after_stops made.ready.state mid.state (call_of c k) r e made.made.state) ∙ sym e)
+      (λ (e : is_fault r ≡ false). (fine_stays made.ready.state mid.state (call_of c k) r e made.made.state).stopped ∙ (clears_rest m.state made.ready.state (call_of c k) r made.readied.state).stopped ∙ so.going ∙ sym e)
       (cases_Bool (is_fault r))
 
   pub calls_more : goes_on r ≡ true → CallsSoFar start outside c most (k + 1) mid before counts2

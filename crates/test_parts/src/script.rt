@@ -323,10 +323,7 @@ fn texts_of_replies(rt: HostRuntime) {
             b"flushed 18446744073709551615\n",
         ),
         (Reply::Swept { changes: 0 }, b"swept 0\n"),
-        (
-            Reply::Swept { changes: 1_000_000 },
-            b"swept 1000000\n",
-        ),
+        (Reply::Swept { changes: 1_000_000 }, b"swept 1000000\n"),
         (
             Reply::Row {
                 s: 1,
