@@ -1,5 +1,5 @@
 -- What a run over a file that a person may have does, and which files it may leave, without a word of blocks.
-use Rattle.std.specs.Prelude.{◌≡◌, ◌⊎◌, ℕ, Bool, true, false, List, None}
+use Rattle.std.specs.Prelude.{◌≡◌, ◌⊎◌, ℕ, Bool, true, false, List, [], None}
 use Rattle.rb_disk.specs.Moments.{Leaves}
 use Rattle.rb_disk.specs.declared.disk.Disk.{Ghosts as DiskGhosts}
 use Rattle.law_crash.specs.Between.{Extends, FoundAtEnd, FoundBetween, FoundSome, MarksGrow}
