@@ -6,28 +6,33 @@ use Rattle.rb_lines.specs.Cut.{CutOff}
 use Rattle.rb_lines.specs.Ends.{Halted}
 use Rattle.rb_lines.specs.Ran.{LineBegun, Ran}
 use Rattle.rb_lines.specs.Whole.{whole_lines}
-use Rattle.rb_model.specs.Calls.{Answer, Call}
+use Rattle.rb_model.specs.Calls.{Answer, Call, Write}
 use Rattle.rb_model.specs.Change.{Asked}
 use Rattle.rb_model.specs.Lines.{Command}
-use Rattle.rb_model.specs.Out.{CallOut, CallsOut, LineOut, LineSaid, Logged, Out, Outside, Resumed, ResumesOut, bad, command, goes_on, skipped, too_long}
+use Rattle.rb_model.specs.Out.{CallMade, CallOut, CallsOut, LineOut, LineSaid, Logged, Out, Outside, Readied, Resumed, ResumesOut, bad, command, goes_on, left_queue, skipped, too_long}
 
 either : (v : Bool) (P Q P2 Q2 : Type 0) → (P → P2) → (Q → Q2) → MatchBool v P Q → MatchBool v P2 Q2
 either true P Q P2 Q2 f g p = f p
 either false P Q P2 Q2 f g q = g q
 
 module _ (o : Outside) where
-  call : (m : Logged) (c : Call) (r : Answer) (m2 : Logged) → CallOut m o c r m2 → CallOut m plain c r m2
-  call m c r m2 x = record {
+  readied : (m : Logged) (c : Call) (r : Answer) (ready : Logged) → Readied m o c r ready → Readied m plain c r ready
+  readied m c r ready x = record { state = x.state; lsn = x.lsn; fault = x.fault; back = tt }
+
+  made : (m : Logged) (c : Call) (r : Answer) (m2 : Logged) → CallMade m o c r m2 → CallMade m plain c r m2
+  made m c r m2 x = record {
     reply = x.reply;
     worn = λ snapshot lost is. tt;
     state = x.state;
     fault = x.fault;
     groups = x.groups;
     grows = x.grows;
-    few = x.few;
     lsn = x.lsn;
     makes = λ on. tt;
   }
+
+  call : (m : Logged) (c : Call) (r : Answer) (m2 : Logged) → CallOut m o c r m2 → CallOut m plain c r m2
+  call m c r m2 x = record { ready = x.ready; readied = readied m c r x.ready x.readied; made = made x.ready c r m2 x.made; few = x.few }
 
   calls : (count k : ℕ) (m : Logged) (c : Command) (out : List ℕ) (m2 : Logged) → CallsOut m o c k count out m2 → CallsOut m plain c k count out m2
   calls zero k m c out m2 x = x
@@ -36,6 +41,8 @@ module _ (o : Outside) where
 
   resumed : (m : Logged) (s : ℕ) (a : Asked) (r : Answer) (m2 : Logged) → Resumed m o s a r m2 → Resumed m plain s a r m2
   resumed m s a r m2 x = record {
+    ready = x.ready;
+    readied = readied (left_queue m s) (Write s a.table a.key a.action) r x.ready x.readied;
     reply = x.reply;
     worn = λ snapshot lost is. tt;
     state = x.state;

@@ -1,5 +1,5 @@
 -- Files that a person may have are sound, and what a run over one leaves is one.
-use Rattle.std.proofs.Common.{◌≡◌, ◌⊎◌, inr, inl, ⊎_elim, ◌+◌, ◌^◌, ◌<◌, ◌≤◌, ◌++◌, ℕ, Bool, true, false, List, [], ◌∷◌, Option, Some, None, refl, sym, ◌∙◌, ap, subst, arith, append_assoc}
+use Rattle.std.proofs.Common.{◌≡◌, ◌⊎◌, inr, inl, ⊎_elim, ◌+◌, ◌^◌, ◌<◌, ◌≤◌, ◌++◌, ℕ, Bool, true, false, List, [], ◌∷◌, Option, Some, refl, sym, ◌∙◌, ap, subst, arith, append_assoc}
 use Rattle.std.proofs.lemmas.List.FromFn.{get_or-map-range_with_len}
 use Rattle.std.proofs.lemmas.Option.{same_Some}
 use Rattle.rb_base.specs.Moments.{weaker}
@@ -53,7 +53,7 @@ restart_small slots n books h file r =
     let ahead = r.has.sound.standing.ahead in
     head_small r.opening.layout file r.blocks r.lsn r.opening.opens.means (omega (arith, logged, ahead))
 
-restarted : (slots n : ℕ) (books : List Book) (now : State) (file : List ℕ) (r : RestartsAt Opens (Some slots) books now n file) → OpensWith slots file (opened now.shape n (rows_at now.shape.blocks now.commits n) (books_of now.shape r.blocks)) (r.lsn + owed_in now.shape r.blocks)
+restarted : (slots n : ℕ) (books : List Book) (now : State) (file : List ℕ) (r : RestartsAt Opens (Some slots) books now n file) → OpensWith slots file (opened now.shape n (rows_at now.shape.blocks now.commits n) (books_of now.shape r.blocks) []) (r.lsn + owed_in now.shape r.blocks)
 restarted slots n books h file r =
     let m = r.opening.layout in
     let rows = rows_at h.shape.blocks h.commits n in
@@ -68,11 +68,11 @@ restarted slots n books h file r =
           small = restart_small (Some slots) n books h file r;
           sound = sound_as (shape_of m) r.blocks n rows sound;
         };
-        state = opened (shape_of m) n rows (books_of (shape_of m) r.blocks);
+        state = opened (shape_of m) n rows (books_of (shape_of m) r.blocks) [];
         opening = record { number = n; rows = rows; sound = sound; state = refl };
         logged = subst (λ (s : Shape). r.lsn ≡ logged_of s r.blocks) (sym r.opening.shape_is) r.has.logged;
       };
-      state = ap (λ (s : Shape). opened s n rows (books_of s r.blocks)) r.opening.shape_is;
+      state = ap (λ (s : Shape). opened s n rows (books_of s r.blocks) []) r.opening.shape_is;
       log = same_Some m.log slots r.opening.slots_are;
       number = ap (λ (s : Shape). r.lsn + owed_in s r.blocks) r.opening.shape_is;
     }
@@ -81,7 +81,7 @@ pub opens_with : (slots : ℕ) (file : List ℕ) (h : State) (lsn : ℕ) → Lef
 opens_with slots _ _ _ (fresh l log file is h opens lsn none) =
     let new = new_file l in
     subst (λ (f : List ℕ). OpensWith slots f h lsn) (sym is)
-    (record { sound = new.0; state = new.1 ∙ (ap (opened (shape_of l) 0 []) (books_new (shape_of l)) ∙ sym opens); log = new_log l ∙ log; number = new_number l ∙ sym none })
+    (record { sound = new.0; state = new.1 ∙ (ap (λ (books : List Book). opened (shape_of l) 0 [] books []) (books_new (shape_of l)) ∙ sym opens); log = new_log l ∙ log; number = new_number l ∙ sym none })
 opens_with slots _ _ _ (later before first number was now extends books n low file r h opens lsn last) =
     subst (OpensWith slots file h) (sym last) (subst (λ (x : State). OpensWith slots file x (r.lsn + owed_in now.shape r.blocks)) (sym opens) (restarted slots n books now file r))
 

@@ -133,7 +133,7 @@ greatest_none f (suc n) none =
 fresh_logged : (l : Layout) → logged_of (shape_of l) (fresh_blocks (shape_of l)) ≡ 0
 fresh_logged l = greatest_none _ (shape_blocks (shape_of l)) (λ which lt. ((fresh_opens l).headed which lt).low)
 
-pub new_file : (l : Layout) → (sound : IsSound (fresh_file file_version l)) × (sound.state ≡ opened (shape_of l) 0 [] (books_of (shape_of l) (fresh_blocks (shape_of l))))
+pub new_file : (l : Layout) → (sound : IsSound (fresh_file file_version l)) × (sound.state ≡ opened (shape_of l) 0 [] (books_of (shape_of l) (fresh_blocks (shape_of l))) [])
 new_file l =
     let shape = shape_of l in
     let blocks = fresh_blocks shape in
@@ -148,7 +148,7 @@ new_file l =
           small = head_small l (fresh_file file_version l) blocks 0 (fresh_opens l).means (omega arith);
           sound = sound_as shape blocks 0 [] sound;
         };
-        state = opened shape 0 [] (books_of shape blocks);
+        state = opened shape 0 [] (books_of shape blocks) [];
         opening = record { number = 0; rows = []; sound = sound; state = refl };
         logged = sym unlogged;
       },

@@ -1,5 +1,5 @@
 -- A file that opens to a state restarts to it.
-use Rattle.std.proofs.Common.{◌≡◌, ◌+◌, ◌-◌, ◌^◌, ◌<◌, ◌≤◌, ℕ, List, Some, refl, sym, ap, subst, arith}
+use Rattle.std.proofs.Common.{◌≡◌, ◌+◌, ◌-◌, ◌^◌, ◌<◌, ◌≤◌, ℕ, List, [], Some, refl, sym, ap, subst, arith}
 use Rattle.std.proofs.Math.Seq.{take-nil}
 use Rattle.std.specs.List.{flat_map}
 use Rattle.std.proofs.lemmas.List.FromFn.{get_or-map-range_with_len}
@@ -25,12 +25,12 @@ pub head_small : (l : Layout) (file : List ℕ) (blocks : List (List ℕ)) (n : 
 head_small l file blocks n m few = let same = ap (λ (h : Head). h.number) m.head_is in let last = m.last in omega (arith, same, last, few)
 
 -- the rows of an opened state at its last commit are its base
-opened_rows : (shape : Shape) (number : ℕ) (rows : List TableRow) (books : List Book) → rows_at shape.blocks (opened shape number rows books).commits (last_scn (opened shape number rows books).commits) ≡ rows
+opened_rows : (shape : Shape) (number : ℕ) (rows : List TableRow) (books : List Book) → rows_at shape.blocks (opened shape number rows books []).commits (last_scn (opened shape number rows books []).commits) ≡ rows
 opened_rows shape number rows books = ap (λ (commits : List (List Change)). over shape.blocks rows (flat_map (λ changes. changes) commits)) (take-nil (number + 0 - number))
 
 module _ (shape : Shape) (blocks : List (List ℕ)) (number : ℕ) (rows : List TableRow) where
   abbrev First : State
-  First = opened shape number rows (books_of shape blocks)
+  First = opened shape number rows (books_of shape blocks) []
 
   first_has : (lsn : ℕ) → SoundAs shape blocks number rows → lsn ≡ logged_of shape blocks → HasState First First.books (last_scn First.commits) blocks lsn
   first_has lsn sound logged = record {

@@ -17,6 +17,7 @@ use Rattle.rb_model.specs.Calls.{Answer, Call, is_fault}
 use Rattle.rb_model.specs.Lines.{Command, Spells, call_of, caller, most_calls, reply_text, without_return}
 use Rattle.rb_model.specs.Out.{Logged, CallOut, CallsOut, CommandOut, LineSaid, command, goes_on, Outside}
 use Rattle.rb_model.specs.State.{State}
+use Rattle.rb_model.proofs.DeadLemmas.{clears_rest}
 use Rattle.rb_model.proofs.Stops.{after_stops, fine_stays}
 use Rattle.rb_shell.proofs.SentLemmas.{added_holds, lost_holds, take_within}
 use Rattle.rb_shell.specs.Steps.{Added, CalledOnce, Calls, Lost, Said, SaidAs, SaidSoFar, Told}
@@ -136,6 +137,13 @@ command_said m now outside line c tells before held waiting (Err Sink) short spe
     let w = cut t in
     record { out = w.out; reply = inr (short, c, spells, w.reply); size = w.size; written = w.written }
 
+-- an answer that tells of no fault of the disk leaves the machine going
+goes_yet : (m now : Logged) (outside : Outside) (c : Call) (r : Answer) → is_fault r ≡ false → m.state.stopped ≡ false → CallOut m outside c r now → now.state.stopped ≡ false
+goes_yet m now outside c r fine going once =
+    (fine_stays once.ready.state now.state c r fine once.made.state).stopped
+    ∙ (clears_rest m.state once.ready.state c r once.readied.state).stopped
+    ∙ going
+
 -- what a call ends with, by what became of its reply
 abbrev pub MatchTold : Result (Unit {0}) StepFault → code.Outcome → Result code.Outcome StepFault → Type 0
 MatchTold (Ok done) answer result = result ≡ Ok answer
@@ -147,10 +155,10 @@ pub calls_as : (m now : Logged) (outside : Outside) (t : Option ℕ) (c : Call) 
     → Told text fault tells held waiting held2 waiting2 told → (result : Result code.Outcome StepFault) → MatchTold told answer result → Calls m outside t c row now tells held waiting held2 waiting2 result
 calls_as m now outside t c answer row text fault tells held waiting held2 waiting2 (Ok done) going once is f (fine, added) result e =
     subst (λ (x : Result code.Outcome StepFault). Calls m outside t c row now tells held waiting held2 waiting2 x) (sym e)
-    (record { made = once; added = subst (λ (xs : List ℕ). Added xs tells held waiting held2 waiting2) is added }, (fine_stays m.state now.state c (answer_of answer row) (sym f ∙ fine) once.state).stopped ∙ going)
+    (record { made = once; added = subst (λ (xs : List ℕ). Added xs tells held waiting held2 waiting2) is added }, goes_yet m now outside c (answer_of answer row) (sym f ∙ fine) going once)
 calls_as m now outside t c answer row text fault tells held waiting held2 waiting2 (Err Disk) going once is f (fine, added) result e =
     subst (λ (x : Result code.Outcome StepFault). Calls m outside t c row now tells held waiting held2 waiting2 x) (sym e)
-    (answer_of answer row, record { made = once; added = subst (λ (xs : List ℕ). Added xs tells held waiting held2 waiting2) is added }, ap (λ (x : State). x.stopped) (after_stops m.state now.state c (answer_of answer row) (sym f ∙ fine) once.state))
+    (answer_of answer row, record { made = once; added = subst (λ (xs : List ℕ). Added xs tells held waiting held2 waiting2) is added }, ap (λ (x : State). x.stopped) (after_stops once.ready.state now.state c (answer_of answer row) (sym f ∙ fine) once.made.state))
 calls_as m now outside t c answer row text fault tells held waiting held2 waiting2 (Err Sink) going once is f lost result e =
     subst (λ (x : Result code.Outcome StepFault). Calls m outside t c row now tells held waiting held2 waiting2 x) (sym e) (answer_of answer row, once, lost)
 
@@ -174,7 +182,7 @@ module _ (start m now : Logged) (outside : Outside) (c : Command) (count : ℕ) 
   calls_fault Disk first lt here =
       let r = here.0 in
       ⊎_elim
-      (λ (gives : goes_on r ≡ true). absurd (false≢true (sym ((fine_stays m.state now.state (call_of c count) r (on_no_fault r gives) here.1.made.state).stopped ∙ so.going) ∙ here.2)))
+      (λ (gives : goes_on r ≡ true). absurd (false≢true (sym (goes_yet m now outside (call_of c count) r (on_no_fault r gives) so.going here.1.made) ∙ here.2)))
       (λ (gives : goes_on r ≡ false). (so_far_stop start m now outside c count (most_calls start.state.shape c) r tells before held waiting held2 waiting2 so lt here.1 gives, here.2))
       (cases_Bool (goes_on r))
   calls_fault Sink first lt here = λ t.

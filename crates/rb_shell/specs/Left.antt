@@ -20,10 +20,10 @@ use Rattle.rb_store.specs.Meaning.{Opens}
 -- under way in it is put back, and takes the next log numbers.
 pub data Left (slots : ℕ) : List ℕ → State → ℕ → Type 0 where
   fresh : (l : Layout) → l.log ≡ slots → (file : List ℕ) → file ≡ fresh_file file_version l → (h : State)
-      → h ≡ opened (shape_of l) 0 [] (new_books (shape_of l)) → (lsn : ℕ) → lsn ≡ 0
+      → h ≡ opened (shape_of l) 0 [] (new_books (shape_of l)) [] → (lsn : ℕ) → lsn ≡ 0
       → Left slots file h lsn
   later : (before : List ℕ) (first : State) (number : ℕ) → Left slots before first number → (now : State)
       → Extends first now → (books : List Book) (n : ℕ) → last_scn first.commits ≤ n → (file : List ℕ)
       → (r : RestartsAt Opens (Some slots) books now n file) → (h : State)
-      → h ≡ opened now.shape n (rows_at now.shape.blocks now.commits n) (books_of now.shape r.blocks)
+      → h ≡ opened now.shape n (rows_at now.shape.blocks now.commits n) (books_of now.shape r.blocks) []
       → (lsn : ℕ) → lsn ≡ r.lsn + owed_in now.shape r.blocks → Left slots file h lsn

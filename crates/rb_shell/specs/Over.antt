@@ -1,5 +1,5 @@
 -- What a run over a file that a person may have does, and which files it may leave, without a word of blocks.
-use Rattle.std.specs.Prelude.{◌≡◌, ◌⊎◌, ℕ, Bool, true, false, List, None}
+use Rattle.std.specs.Prelude.{◌≡◌, ◌⊎◌, ℕ, Bool, true, false, List, [], None}
 use Rattle.rb_disk.specs.Moments.{Leaves}
 use Rattle.rb_disk.specs.declared.disk.Disk.{Ghosts as DiskGhosts}
 use Rattle.law_crash.specs.Between.{Extends, FoundAtEnd, FoundBetween, FoundSome, MarksGrow}
@@ -20,7 +20,7 @@ pub record HasRows (slots : ℕ) (books : List Book) (h : State) (n : ℕ) (file
   pub found : List Book
   pub marks : MarksGrow h.shape found books
   pub lsn : ℕ
-  pub left : Left slots file (opened h.shape n (rows_at h.shape.blocks h.commits n) found) lsn
+  pub left : Left slots file (opened h.shape n (rows_at h.shape.blocks h.commits n) found []) lsn
 
 -- What a run leaves that opened with a state and came to one with its commits and perhaps more. At each moment: files
 -- that the disk had at its start, or some with a number from that of the state it opened with on. And at its end: files
@@ -40,7 +40,7 @@ HaveAll d new slots now =
 -- what answers hang on besides the machine's state, where a snapshot may be too old whenever something above it was
 -- given up, and nothing is said of blocks
 abbrev pub plain : Outside
-plain = outside_by (λ h blocks call snapshot lost. Unit {0}) (λ m call answer m2. Unit {0})
+plain = outside_by (λ h blocks call snapshot lost. Unit {0}) (λ m groups m2. Unit {0}) (λ m call answer m2. Unit {0})
 
 -- the machine as it opens
 abbrev pub at_start : State → ℕ → List (List ℕ) → Logged

@@ -24,6 +24,7 @@ tells_fault (replies.Done s) = false
 tells_fault (replies.Committed s number) = false
 tells_fault (replies.Numbered s number) = false
 tells_fault (replies.Flushed number) = false
+tells_fault (replies.Swept changes) = false
 tells_fault (replies.Row s key value) = false
 tells_fault (replies.End s) = false
 tells_fault (replies.Absent s) = false

@@ -141,7 +141,7 @@ pub fn run<S: Source, K: Sink, D: Disk>(
     // again, with the rows of a state that comes of this one.
     ensures left_new { D.tells → (l : Layout) → AsksFormat words.now l → result.0 ≡ Status.Done
         → (file : List ℕ) → D.image result.1 file
-        → Left l.log file (opened (shape_of l) 0 [] (new_books (shape_of l))) 0 }
+        → Left l.log file (opened (shape_of l) 0 [] (new_books (shape_of l)) []) 0 }
     ensures left { D.tells → S.tells → (n : ℕ) → AsksRun words.now n → result.0 ≡ Status.Done
         → (slots : ℕ) (h : State) (lsn : ℕ) → Left slots (D.content disk) h lsn
         → RunsToEnd D.Disk disk result.1 slots h lsn (lines_of (S.left source.old)) K.tells (K.held sink.old)

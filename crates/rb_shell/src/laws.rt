@@ -19,7 +19,7 @@ use rb_layout::VERSION;
 /// A new file of any layout is sound: a run over it opens with no commit and no row.
 pub fn new_file_sound()
     ensures { (l : Layout) → (sound : IsSound (fresh_file VERSION l))
-        × (sound.state ≡ opened (shape_of l) 0 [] (books_of (shape_of l) (fresh_blocks (shape_of l)))) }
+        × (sound.state ≡ opened (shape_of l) 0 [] (books_of (shape_of l) (fresh_blocks (shape_of l))) []) }
 {}
 
 /// An image of which `Endures` says that it restarts at a number is sound. A run over it opens with that number and
@@ -27,7 +27,8 @@ pub fn new_file_sound()
 pub fn restarts_sound()
     ensures { (l : Layout) (books : List Book) (h : State) (n : ℕ) (image : List ℕ)
         → RestartsAt Opens (Some l.log) books h n image → (sound : IsSound image)
-        × (sound.state ≡ opened h.shape n (rows_at h.shape.blocks h.commits n) (books_of h.shape sound.store.blocks))
+        × (sound.state ≡ opened h.shape n (rows_at h.shape.blocks h.commits n)
+        (books_of h.shape sound.store.blocks) [])
         × MarksWithin h.shape books sound.store.blocks }
 {}
 

@@ -65,6 +65,7 @@ pub fn reply_of(s: Option<u16>, answer: Outcome, row: &Row) -> Reply<'_>
         (Outcome::Committed { number }, Some(s)) => Reply::Committed { s, number },
         (Outcome::Numbered { number }, Some(s)) => Reply::Numbered { s, number },
         (Outcome::Flushed { number }, None) => Reply::Flushed { number },
+        (Outcome::Swept { changes }, None) => Reply::Swept { changes },
         (Outcome::Row, Some(s)) => Reply::Row {
             s,
             key: row.key,

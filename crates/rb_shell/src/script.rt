@@ -39,12 +39,14 @@ struct Interpreter<T: Store> {
 }
 
 impl<T: Store> LineRunner for Interpreter<T> {
-    ghost use Rattle.rb_calls.specs.Since.{MakesOf, since_same, since_joined};
+    ghost use Rattle.rb_calls.specs.Since.{BackOf, MakesOf, since_same, since_joined};
     ghost use Rattle.rb_engine.specs.Worn.{IsWorn};
 
     ghost stands = { λ r m. StandsAs T.Store r.engine m };
 
     ghost worn = { IsWorn };
+
+    ghost back = { BackOf };
 
     ghost makes = { MakesOf };
 

@@ -1,4 +1,4 @@
-use Rattle.std.proofs.Common.{◌≡◌, Some, refl, ap, sym, subst}
+use Rattle.std.proofs.Common.{◌≡◌, [], Some, refl, ap, sym, subst}
 use Rattle.rb_base.specs.declared.shape.Shape.{Shape}
 use Rattle.rb_layout.specs.Regions.{shape_of}
 use Rattle.rb_model.specs.Rows.{rows_at}
@@ -23,10 +23,10 @@ returns c = λ l books h n image r.
           small = restart_small (Some l.log) n books h image r;
           sound = sound_as (shape_of m) r.blocks n rows sound;
         };
-        state = opened (shape_of m) n rows (books_of (shape_of m) r.blocks);
+        state = opened (shape_of m) n rows (books_of (shape_of m) r.blocks) [];
         opening = record { number = n; rows = rows; sound = sound; state = refl };
         logged = subst (λ (s : Shape). r.lsn ≡ logged_of s r.blocks) (sym r.opening.shape_is) r.has.logged;
       },
-      ap (λ (s : Shape). opened s n rows (books_of s r.blocks)) r.opening.shape_is,
+      ap (λ (s : Shape). opened s n rows (books_of s r.blocks) []) r.opening.shape_is,
       r.has.marks,
     )
